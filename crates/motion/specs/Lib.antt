@@ -1,0 +1,3 @@
+pub mod Braking
+pub mod Planning
+pub mod Laws
