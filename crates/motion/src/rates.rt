@@ -15,7 +15,7 @@ pub struct Rates {
 
 impl Rates {
     // The speed for the next tick, from the present one and the counts up to where the axis has to be at rest.
-    pub fn plan(self, speed: u16, room: u32) -> u16
+    pub fn plan(self, speed: u16, room: u64) -> u16
         ensures planned { λ r. ⌜ Planned-from self speed room r ⌝ }
         ensures only { λ r. ⌜ ((u : ℕ) → Planned-from self speed room u → u ≡ r) ⌝ }
         ensures value { λ r. ⌜ r ≡ planned-speed self speed room ⌝ }
@@ -44,14 +44,14 @@ impl Rates {
 
 // The greatest speed up to `top` whose braking distance fits `room`. Braking distances grow with the speed,
 // so each turn halves the speeds that are left: a top speed of n binary digits takes at most n turns.
-fn fastest_fitting(top: u16, deceleration: u16, room: u32) -> u16
+fn fastest_fitting(top: u16, deceleration: u16, room: u64) -> u16
     ensures { λ r. ⌜ Planned top deceleration room r ⌝ }
 {
     let mut low = 0;
     let mut high = top;
     while low < high {
         let middle = high - (high - low) / 2;
-        if braking_distance(middle, deceleration) <= room {
+        if u64::from(braking_distance(middle, deceleration)) <= room {
             low = middle;
         } else {
             high = middle - 1;
