@@ -11,7 +11,7 @@ use Rattle.std.proofs.shelf.Ways.{tells}
 use Rattle.words.specs.declared.word.Bit.the-variants.{B14, B15, B16, B17}
 use Rattle.words.specs.Words.{on, digit, four-decimal, four-digits, three-digits, three-decimal, position-start, position-size, position-value}
 use Rattle.std.specs.declared.result.Result.the-variants.{Ok}
-use Rattle.words.specs.declared.fault.Axis.{Axis}
+use Rattle.words.specs.declared.fault.AxisId.{AxisId}
 use Rattle.words.specs.Readings.{position-reading}
 use Rattle.words.specs.Written.{packed, sign-bit, Reads, Written}
 use Rattle.words.proofs.Packing.{hex, hex-0, hex-1, hex-2, hex-3, hex-places, packed-is, places, bit-14, bit-15, bit-16, bit-17}
@@ -258,7 +258,7 @@ minus : (k a b : ℕ) → Back 1 (suc k) a b → Reads (negsuc k) a b
 minus k a b h = record { start = h .start; digits = h .digits; value = negative (on B17 a) (position-size a b) k (grind (arith, tells, h .signed)) (h .size) }
 
 -- what the reader of a position answers for words that read as n
-read : (axis : Axis) (i j : ℕ) (n : ℤ) (a b : ℕ) → Reads n a b → position-reading (record { bits = a; axis = axis; index = i }) (record { bits = b; axis = axis; index = j }) ≡ Ok n
+read : (axis : AxisId) (i j : ℕ) (n : ℤ) (a b : ℕ) → Reads n a b → position-reading (record { bits = a; axis = axis; index = i }) (record { bits = b; axis = axis; index = j }) ≡ Ok n
 read axis i j n a b r = simp (r .start, r .digits, r .value)
 
 two-ways : (s x y : ℕ) → s < 2 → x ≡ s * 0x8000 + packed (0 / 10000) → y ≡ packed (0 % 10000) → ((x ≡ 0) × (y ≡ 0)) ⊎ ((x ≡ 0x8000) × (y ≡ 0))

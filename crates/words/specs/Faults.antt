@@ -4,8 +4,8 @@ use Rattle.std.specs.declared.option.Option.{Option}
 use Rattle.std.specs.declared.option.Option.the-variants.{Some, None}
 use Rattle.words.specs.declared.fault.Question.{Question}
 use Rattle.words.specs.declared.fault.Question.the-variants as q
-use Rattle.words.specs.declared.fault.Axis.{Axis}
-use Rattle.words.specs.declared.fault.Axis.the-variants.{One, Two, Three}
+use Rattle.words.specs.declared.fault.AxisId.{AxisId}
+use Rattle.words.specs.declared.fault.AxisId.the-variants.{One, Two, Three}
 
 -- the number of a question, as a refusal carries it
 abbrev pub question-number : Question → ℕ
@@ -28,12 +28,12 @@ question-number q.Moveset = 16
 question-number q.Buffer = 23
 
 -- the number of an axis
-abbrev pub axis-number : Axis → ℕ
+abbrev pub axis-number : AxisId → ℕ
 axis-number One = 1
 axis-number Two = 2
 axis-number Three = 3
 
 -- the axis as a refusal names it: 0 where it is unknown or wrong
-abbrev pub named-axis : Option Axis → ℕ
+abbrev pub named-axis : Option AxisId → ℕ
 named-axis None = 0
 named-axis (Some a) = axis-number a

@@ -7,7 +7,7 @@ use lib.IntN.{ℤ, pos, negsuc, natAbs}
 use Rattle.std.specs.declared.option.Option.{Option}
 use Rattle.std.specs.declared.option.Option.the-variants.{Some, None}
 use Rattle.std.specs.declared.result.Result.the-variants.{Ok}
-use Rattle.words.specs.declared.fault.Axis.{Axis}
+use Rattle.words.specs.declared.fault.AxisId.{AxisId}
 use Rattle.words.specs.declared.position.PositionWords.{PositionWords}
 use Rattle.words.specs.Readings.{position-reading}
 use Rattle.words.specs.Words.{four-decimal, position-start, position-value}
@@ -34,7 +34,7 @@ pub record Reads (n : ℤ) (a b : ℕ) : Type 0 where
 pub record Written (n : ℤ) (w : PositionWords) : Type 0 where
   pub within : natAbs n ≤ position-max
   -- read as any two words for any axis, they give the number back
-  pub read-back : (axis : Axis) (i j : ℕ) → position-reading (record { bits = w .first; axis = axis; index = i }) (record { bits = w .second; axis = axis; index = j }) ≡ Ok n
+  pub read-back : (axis : AxisId) (i j : ℕ) → position-reading (record { bits = w .first; axis = axis; index = i }) (record { bits = w .second; axis = axis; index = j }) ≡ Ok n
   -- no other words read as this number, but those of minus zero
   pub only : (a b : ℕ) → a < 2 ^ 16 → b < 2 ^ 16 → Reads n a b → ((a ≡ w .first) × (b ≡ w .second)) ⊎ ((a ≡ 0x8000) × (b ≡ 0))
   pub never-minus-zero : w .first ≡ 0x8000 → w .second ≡ 0 → ⊥

@@ -67,21 +67,22 @@ impl Question {
     }
 }
 
+// Which of the card's three axes.
 #[derive(Clone, Copy, PartialEq, Eq, Debug)]
-pub enum Axis {
+pub enum AxisId {
     One,
     Two,
     Three,
 }
 
-impl Axis {
+impl AxisId {
     pub fn number(self) -> u8
         ensures { λ r. ⌜ r ≡ axis-number self ⌝ }
     {
         match self {
-            Axis::One => 1,
-            Axis::Two => 2,
-            Axis::Three => 3,
+            AxisId::One => 1,
+            AxisId::Two => 2,
+            AxisId::Three => 3,
         }
     }
 }
@@ -91,7 +92,7 @@ impl Axis {
 pub struct Fault {
     pub question: Question,
     // None where the axis is unknown or is itself what is wrong
-    pub axis: Option<Axis>,
+    pub axis: Option<AxisId>,
     // 0 where the word is unknown or missing
     pub word: usize,
 }

@@ -10,7 +10,7 @@ pub mod position;
 pub mod word;
 
 pub use dwell::read_dwell;
-pub use fault::Axis;
+pub use fault::AxisId;
 pub use fault::Fault;
 pub use fault::Question;
 pub use number::read_number;

@@ -11,7 +11,7 @@ use std::test::*;
 fn word(bits: u16, index: usize) -> Word {
     Word {
         bits,
-        axis: Axis::Two,
+        axis: AxisId::Two,
         index,
     }
 }
@@ -19,7 +19,7 @@ fn word(bits: u16, index: usize) -> Word {
 fn wrong_at(index: usize) -> Fault {
     Fault {
         question: Question::Digits,
-        axis: Some(Axis::Two),
+        axis: Some(AxisId::Two),
         word: index,
     }
 }

@@ -3,7 +3,7 @@ ghost use mathlib.Core.Path.{_≡_};
 ghost use Prim.Native.Nat.{_<_};
 ghost use Rattle.words.specs.Words.{on};
 ghost use Rattle.words.specs.Readings.{wrong-word, digit-reading, three-digit-reading, number-reading, seven-digit-reading};
-use crate::fault::Axis;
+use crate::fault::AxisId;
 use crate::fault::Fault;
 use crate::fault::Question;
 
@@ -11,7 +11,7 @@ use crate::fault::Question;
 #[derive(Clone, Copy)]
 pub struct Word {
     pub bits: u16,
-    pub axis: Axis,
+    pub axis: AxisId,
     pub index: usize,
 }
 
