@@ -1,0 +1,7 @@
+// An axis over its drive.
+use moves::Control;
+
+pub struct Axis<D> {
+    pub(crate) control: Control,
+    pub(crate) drive: D,
+}

@@ -1,0 +1,3 @@
+pub mod Mirrored
+pub mod Places
+pub mod Products
