@@ -60,11 +60,9 @@ fn stopped_mode(mode: Mode) -> Mode
 pub fn lose_home(control: &mut Control, place: i32)
     ensures { λ _. ⌜ now (control .exit) .state ≡ lose-home place (now (control .entry) .state) ⌝ }
 {
-    control.state.coordinates = Coordinates {
-        base: 0,
-        accumulator: 0,
-        last_endpoint: i64::from(place),
-    };
+    control.state.coordinates.base = 0;
+    control.state.coordinates.accumulator = 0;
+    control.state.coordinates.last_endpoint = i64::from(place);
     control.state.homed = false;
 }
 

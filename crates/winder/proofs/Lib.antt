@@ -1,0 +1,3 @@
+mod Spelling
+mod Sizes
+mod Underway

@@ -1,0 +1,5 @@
+pub mod Arguments
+pub mod Travel
+pub mod Servos
+pub mod Benches
+pub mod Runs
