@@ -9,6 +9,7 @@ pub mod parameters;
 pub mod partner;
 mod progress;
 pub mod set_up;
+mod shown;
 pub mod state;
 
 pub use control::Control;
@@ -21,7 +22,7 @@ pub use parameters::Parameters;
 pub use partner::Partner;
 pub use partner::partner_length;
 pub use set_up::Destination;
-pub use set_up::base_under;
+pub use shown::base_under;
 pub use state::Coordinates;
 pub use state::Direction;
 pub use state::Leg;

@@ -1,24 +1,21 @@
 // Setting up a move.
 ghost use mathlib.Core.Path.{_≡_};
-ghost use Rattle.moves.specs.State.{Ranges, Coordinate-ranges, Within, rest-with, stored-move, beyond-shown};
-ghost use mathlib.Core.Bool.{not};
-ghost use Rattle.std.specs.Vec.{made};
-ghost use Rattle.std.specs.Options.{Cases as BySome};
-ghost use Rattle.moves.specs.Moves.{moves-max};
-ghost use Rattle.moves.specs.SetUp.{destination, checked, accumulated, target-from, heading, head-for, set-up-travel, limits-show, set-up-preset, dwell-ticks, set-up-action, set-up};
 ghost use Prim.Native.Nat.{_^_, _<_};
-ghost use lib.IntN.{_-ℤ_};
+ghost use Rattle.std.specs.Vec.{made};
+ghost use Rattle.moves.specs.Moves.{moves-max};
+ghost use Rattle.moves.specs.SetUp.{destination, checked, accumulated, target-from, heading, head-for, set-up-travel, set-up-preset, dwell-ticks, set-up};
+ghost use Rattle.moves.specs.State.{Ranges, Coordinate-ranges, Within, rest-with};
 use crate::moves::Action;
-use crate::moves::Move;
 use crate::moves::Travel;
 use crate::parameters::Parameters;
+use crate::shown::SHOWN_MAX;
+use crate::shown::base_under;
 use crate::state::Coordinates;
 use crate::state::Direction;
 use crate::state::Leg;
 use crate::state::Mode;
 use crate::state::Motion;
 use crate::state::Note;
-use crate::state::Program;
 use crate::state::State;
 use words::Target;
 
@@ -28,8 +25,6 @@ pub struct Destination {
     pub accumulator: i64,
     pub endpoint: i32,
 }
-
-const SHOWN_MAX: i64 = 19_999_999;
 
 impl Parameters {
     // Where a move goes that starts from the last endpoint `from`, or the note that its set-up makes.
@@ -115,55 +110,11 @@ impl Motion {
     }
 }
 
-impl Program {
-    pub fn stored(&self, index: u8) -> Option<Move>
-        ensures value { λ r. ⌜ r ≡ stored-move (now (self .entry)) index ⌝ }
-        ensures within { λ r. ⌜ BySome r (Unit {0}) (λ _. index < moves-max) ⌝ }
-    {
-        match &self.moveset {
-            Some(moveset) => moveset.get(usize::from(index)),
-            None => None,
-        }
-    }
-}
-
 // How many ticks a dwell lasts.
 fn dwell_ticks(milliseconds: u32) -> u32
     ensures { λ r. ⌜ r ≡ dwell-ticks milliseconds ⌝ }
 {
     ((5 * u64::from(milliseconds) + 11) / 12) as u32
-}
-
-impl Parameters {
-    // Whether both limits can be shown as positions under that base.
-    fn limits_show(&self, base: i64) -> bool
-        requires { ⌜ Within (2 ^ 33) base ⌝ }
-        ensures { λ r. ⌜ r ≡ limits-show (now (self .entry)) base ⌝ }
-    {
-        shows(self.low, base) && shows(self.high, base)
-    }
-}
-
-// Whether a place can be shown as a position under that base.
-fn shows(place: i32, base: i64) -> bool
-    requires { ⌜ Within (2 ^ 33) base ⌝ }
-    ensures { λ r. ⌜ r ≡ not (beyond-shown (place -ℤ base)) ⌝ }
-{
-    in_shown_range(i64::from(place) - base)
-}
-
-fn in_shown_range(number: i64) -> bool
-    ensures { λ r. ⌜ r ≡ not (beyond-shown number) ⌝ }
-{
-    !(number < -SHOWN_MAX || SHOWN_MAX < number)
-}
-
-// The base under which a place has that position.
-pub fn base_under(place: i32, position: i32) -> i64
-    ensures value { λ r. ⌜ r ≡ place -ℤ position ⌝ }
-    ensures within { λ r. ⌜ Within (2 ^ 33) r ⌝ }
-{
-    i64::from(place) - i64::from(position)
 }
 
 impl State {

@@ -1,7 +1,11 @@
 // The state of an axis, apart from its drive.
 ghost use mathlib.Core.Path.{_≡_};
 ghost use Rattle.moves.specs.Numbers.{mode-number, note-number};
-ghost use Rattle.moves.specs.State.{signed, new-state};
+ghost use Prim.Native.Nat.{_<_};
+ghost use Rattle.std.specs.Options.{Cases as BySome};
+ghost use Rattle.moves.specs.Moves.{moves-max};
+ghost use Rattle.moves.specs.State.{signed, new-state, stored-move};
+use crate::moves::Move;
 use crate::moves::Moveset;
 use crate::parameters::Parameters;
 
@@ -124,6 +128,19 @@ pub struct Program {
     pub moveset: Option<Moveset>,
     // the index of the move that was set up last
     pub current: u8,
+}
+
+impl Program {
+    // The move of an index of the stored moveset, counted from 0.
+    pub fn stored(&self, index: u8) -> Option<Move>
+        ensures value { λ r. ⌜ r ≡ stored-move (now (self .entry)) index ⌝ }
+        ensures within { λ r. ⌜ BySome r (Unit {0}) (λ _. index < moves-max) ⌝ }
+    {
+        match &self.moveset {
+            Some(moveset) => moveset.get(usize::from(index)),
+            None => None,
+        }
+    }
 }
 
 #[derive(Clone, Copy)]

@@ -5,14 +5,13 @@ use Prim.Native.Nat.{ℕ, _+_, _*_, _≤_}
 use lib.IntN.{ℤ, pos, negℤ}
 use native.Mathlib.Omega.{arith}
 use Rattle.std.proofs.shelf.Signed.{ints}
-use Rattle.std.proofs.shelf.Tests.{and-parts, leb-true}
 use Rattle.std.specs.declared.result.Result.{Result}
 use Rattle.std.specs.Vec.{made}
 use Rattle.words.specs.declared.fault.Fault.{Fault}
 use Rattle.words.specs.declared.word.Bit.the-variants.{B14, B17}
 use Rattle.words.specs.declared.word.Word.{Word}
 use Rattle.words.specs.Readings.{position-reading, pair-reading}
-use Rattle.words.specs.Words.{three-decimal, four-decimal, three-digits, four-digits, digit, position-start, position-size, position-value, on}
+use Rattle.words.specs.Words.{three-decimal, four-decimal, three-digits, four-digits, position-start, position-size, position-value, on}
 use Rattle.winder.specs.Runs.{Reachable}
 
 -- Three decimal digits spell 999 at most.

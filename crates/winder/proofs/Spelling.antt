@@ -1,12 +1,11 @@
 -- Texts that spell no word.
-use mathlib.Core.Path.{_≡_}
+use mathlib.Core.Path.{_≡_, ap}
 use mathlib.Core.List.{List, [], _∷_}
 use Prim.Native.Nat.{ℕ}
 use native.Mathlib.Omega.{arith}
 use lib.ListN.{getD}
 use Rattle.std.specs.Reads.{Numeral}
 use Rattle.std.specs.Text.{digitValue}
-use mathlib.Core.Path.{ap}
 
 -- A plus sign is no digit.
 pub plus-spells-nothing : (text : List ℕ) → getD text 0 0 ≡ 43 → Numeral 16 text → ⊥

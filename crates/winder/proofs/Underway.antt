@@ -15,7 +15,6 @@ use Rattle.drive.specs.Values.{Within, reach-ceiling, is-beyond, held}
 use Rattle.winder.specs.declared.bench.Bench.{Bench}
 use Rattle.winder.specs.declared.travel.Direction.{Direction}
 use Rattle.winder.specs.declared.travel.Direction.the-variants.{Plus, Minus}
-use Rattle.winder.specs.declared.travel.Move.{Move}
 use Rattle.winder.specs.Benches.{analog-state, reversed-state, Ticked, Done, both-answers, analog-reading, reversed-reading}
 use Rattle.winder.specs.Runs.{Reachable, Standing}
 use Rattle.winder.specs.Servos.{Servo-state, servo-answer, servo-ticked}
@@ -26,18 +25,19 @@ abbrev pub between-ticks : ℤ → ℤ → Servo-state
 between-ticks p g = record { values = record { place = p; gap = g; awake = true; reach = reach-ceiling }; unreported = g }
 
 -- a step of that size leaves a gap far below its ceiling
-abbrev pub Small : ℤ → Type 0
+abbrev Small : ℤ → Type 0
 Small s = Within (negℤ (pos 65535)) (pos 65535) s
 
--- A drive takes a small step that stays in its reach, and the encoder takes the step before it off the gap.
-pub step-taken : (p g s : ℤ) → Reachable (p +ℤ s) → servo-answer (between-ticks p g) s ≡ Ok tt
+-- A drive takes a step that stays in its reach.
+step-taken : (p g s : ℤ) → Reachable (p +ℤ s) → servo-answer (between-ticks p g) s ≡ Ok tt
 step-taken p g s h = grind (arith, ints)
 
 -- A small gap is not cut.
 held-small : (s : ℤ) → Small s → held s ≡ s
 held-small s h = grind (arith, ints)
 
-pub step-done : (p g s : ℤ) → Reachable (p +ℤ s) → Small s → servo-ticked (between-ticks p g) s ≡ between-ticks (p +ℤ s) s
+-- Its encoder first takes the step before off the gap, so that this one alone is left.
+step-done : (p g s : ℤ) → Reachable (p +ℤ s) → Small s → servo-ticked (between-ticks p g) s ≡ between-ticks (p +ℤ s) s
 step-done p g s h k =
     let inside : is-beyond reach-ceiling (p +ℤ s) ≡ false = grind (arith, ints) in
     let none : g -ℤ g ≡ pos 0 = omega (arith, ints) in
@@ -90,15 +90,19 @@ module _ (z p : ℤ) (rates : Rates) (before after : Bench) (r : Result ℤ Refu
   abbrev s : ℤ
   s = next-step rates (before .travel)
 
+  -- The speed is the planned one.
   planned : Planned-from rates v left w
   planned = planning-laws .exists rates v left
 
+  -- It is at most what is left.
   pub planned-fits : next-speed rates (before .travel) ≤ before .travel .left
   planned-fits = planning-laws .at-most-the-room (speed-cap rates v) (rates .deceleration) left w planned
 
+  -- It is not 0 as long as anything is left.
   pub planned-moves : 1 ≤ rates .feedrate → 1 ≤ rates .acceleration → 1 ≤ before .travel .left → 1 ≤ next-speed rates (before .travel)
   planned-moves f a m = planning-laws .moves rates v left w a f m planned
 
+  -- The step stays in the reach.
   there : Reachable (p +ℤ s)
   there = halfway d p left w planned-fits (u .reachable) (subst Reachable (sym (u .remaining)) h)
 

@@ -1,4 +1,4 @@
-// What the program prints. No contract can speak of that, so these functions decide nothing that `run` and `arguments` do not.
+// What the program prints. No contract can speak of that, so all that is worked out comes from the other modules.
 use crate::arguments::position;
 use crate::bench::Bench;
 use crate::bench::GAP_GAIN;

@@ -11,7 +11,7 @@ pub enum Question {
     Directory,
     // are the directory's pairs right, and does the block end where they say?
     Pairs,
-    // is the axis word 1 to 3, and rising from record to record?
+    // does every axis word name an axis, each above the one before?
     Axis,
     // are all digits 0 to 9 and all fixed bits 0?
     Digits,

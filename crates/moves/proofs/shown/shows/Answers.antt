@@ -6,7 +6,7 @@ use mir.Syntax.{w64}
 use mir.Val.{toZ, ofZ}
 use Rattle.std.proofs.shelf.Signed.{ints}
 use Rattle.moves.specs.State.{beyond-shown}
-use Rattle.moves.proofs.set_up.shows.Needs as need
+use Rattle.moves.proofs.shown.shows.Needs as need
 
 pub returns : need.returns
 returns c =
