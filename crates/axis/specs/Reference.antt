@@ -18,7 +18,8 @@ use Rattle.moves.specs.declared.state.Note.the-variants.{StopInput, DriveAsleep
 use Rattle.moves.specs.declared.state.State.{State}
 use Rattle.modes.specs.Commands.{after-command, with-parameters, loaded}
 use Rattle.moves.specs.State.{with-speed, with-note, lose-home, signed}
-use Rattle.modes.specs.Tick.{advance, named-home, gap-within}
+use Rattle.modes.specs.Standing.{gap-within}
+use Rattle.modes.specs.Tick.{advance, named-home}
 
 pub record Reference : Type 0 where
   pub state : State
