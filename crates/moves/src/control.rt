@@ -6,6 +6,7 @@ use crate::state::State;
 
 // The coordinates stay within these ranges whatever the parameters, the moves and the drive are, so that no sum of them
 // overflows and no call asks anything of its caller.
+#[derive(Drop)]
 pub struct Control {
     pub state: State,
     ghost base: { Within (2 ^ 33) (state .coordinates .base) },
