@@ -1,3 +1,4 @@
 mod Spelling
 mod Sizes
 mod Underway
+mod Rounds

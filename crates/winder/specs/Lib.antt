@@ -3,3 +3,7 @@ pub mod Travel
 pub mod Servos
 pub mod Benches
 pub mod Runs
+pub mod Settings
+pub mod Orders
+pub mod Winding
+pub mod Endings

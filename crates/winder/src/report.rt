@@ -1,5 +1,6 @@
-// What the program prints. No contract can speak of that, so all that is worked out comes from the other modules.
+// What the program prints of the move. No contract can speak of that, so all that is worked out comes from the other modules.
 use crate::arguments::position;
+use crate::axis_report::wind_axis;
 use crate::bench::Bench;
 use crate::bench::GAP_GAIN;
 use crate::bench::STEP_GAIN;
@@ -19,13 +20,14 @@ pub fn print_usage(rt: &impl Eprint) -> io::Result<()> {
     Err(io::Error::from(io::ErrorKind::InvalidInput))
 }
 
-// Reads the position and carries the move out, or says why not.
+// Reads the position, carries the move out and winds with an axis, or says why not.
 pub fn wind(rt: &impl Print, first: u16, second: u16) -> io::Result<()> {
     match position(first, second) {
         Ok(counts) => {
             println!(rt, "position {first:04X} {second:04X}: {counts} counts")?;
             print_settings(rt)?;
-            print_outcome(rt, run(rt, counts)?)
+            print_outcome(rt, run(rt, counts)?)?;
+            wind_axis(rt)
         }
         Err(fault) => print_fault(rt, first, second, fault),
     }

@@ -1,0 +1,9 @@
+pub mod Questions
+pub mod Directory
+pub mod Records
+pub mod Presets
+pub mod Numbers
+pub mod Commands
+pub mod Positions
+pub mod Bounds
+pub mod Parameters

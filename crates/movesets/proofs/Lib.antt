@@ -1,0 +1,2 @@
+pub mod ByKind
+pub mod Turns
