@@ -40,7 +40,7 @@ JOINED = {
 }
 
 # variables of definitions and proofs
-LOCAL = "axes-right first-right good-first good-second in-band starts-right with-offset".split()
+LOCAL = "axes-right first-right good-first good-second in-band starts-right wide-gain wide-number with-offset".split()
 
 WORD = re.compile(r"(?<![\w'\-·.«])([A-Za-z_][\w']*(?:-[\w']+)+)(?![\w'\-»])|(?<=\.)([A-Za-z_][\w']*(?:-[\w']+)+)(?![\w'\-»])")
 DEFINED = re.compile(r"\s*(?:abbrev |unfoldable |private )*(?:pub )?(?:record |data )?([A-Za-z_][\w']*(?:-[\w']+)+)(?: *[({].*)? *:")
