@@ -41,8 +41,8 @@ impl<D: Drive> Axis<D> {
 
     // One tick. The drive feels first; then the first alarm takes the axis down, or it moves and gives one step.
     pub fn tick(&mut self, input: Input)
-        ensures after { over self.new.control.state (meaning self.new.drive) ≡ tick input (over self.old.control.state (meaning self.old.drive)) }
-        ensures follows { Follows meaning obeys self.old self.new (response (Tick input) (reference meaning self.old)) }
+        ensures after { over self.new.control.state (D.meaning self.new.drive) ≡ tick input (over self.old.control.state (D.meaning self.old.drive)) }
+        ensures follows { Follows D.meaning D.obeys self.old self.new (response (Tick input) (reference D.meaning self.old)) }
     {
         self.drive.feel(i32::from(input.counts), input.ready);
         if is_up(self.control.state.motion.mode) {
@@ -55,8 +55,8 @@ impl<D: Drive> Axis<D> {
 
     // A command, on an axis that is allowed it.
     pub fn command(&mut self, command: Command)
-        ensures after { over self.new.control.state (meaning self.new.drive) ≡ commanded command (over self.old.control.state (meaning self.old.drive)) }
-        ensures follows { Follows meaning obeys self.old self.new (response (Commanded command) (reference meaning self.old)) }
+        ensures after { over self.new.control.state (D.meaning self.new.drive) ≡ commanded command (over self.old.control.state (D.meaning self.old.drive)) }
+        ensures follows { Follows D.meaning D.obeys self.old self.new (response (Commanded command) (reference D.meaning self.old)) }
     {
         apply_command(&mut self.control, command, self.drive.place());
         if let Command::Reset = command {
@@ -66,8 +66,8 @@ impl<D: Drive> Axis<D> {
 
     // Accepted parameters.
     pub fn set_parameters(&mut self, parameters: Parameters)
-        ensures after { over self.new.control.state (meaning self.new.drive) ≡ accepted parameters (over self.old.control.state (meaning self.old.drive)) }
-        ensures follows { Follows meaning obeys self.old self.new (response (ParametersSet parameters) (reference meaning self.old)) }
+        ensures after { over self.new.control.state (D.meaning self.new.drive) ≡ accepted parameters (over self.old.control.state (D.meaning self.old.drive)) }
+        ensures follows { Follows D.meaning D.obeys self.old self.new (response (ParametersSet parameters) (reference D.meaning self.old)) }
     {
         store_parameters(&mut self.control, parameters);
         self.drive.sleep();
@@ -78,7 +78,7 @@ impl<D: Drive> Axis<D> {
     pub fn set_moveset(&mut self, moveset: Moveset)
         ensures state { self.new.control.state ≡ with_moveset moveset self.old.control.state }
         ensures drive { self.new.drive ≡ self.old.drive }
-        ensures follows { Follows meaning obeys self.old self.new (response (MovesetSet moveset) (reference meaning self.old)) }
+        ensures follows { Follows D.meaning D.obeys self.old self.new (response (MovesetSet moveset) (reference D.meaning self.old)) }
     {
         store_moveset(&mut self.control, moveset);
     }
@@ -87,22 +87,22 @@ impl<D: Drive> Axis<D> {
     pub fn hold(&mut self, preset: Option<i32>)
         ensures state { self.new.control.state ≡ with_held preset self.old.control.state }
         ensures drive { self.new.drive ≡ self.old.drive }
-        ensures follows { Follows meaning obeys self.old self.new (response (PresetHeld preset) (reference meaning self.old)) }
+        ensures follows { Follows D.meaning D.obeys self.old self.new (response (PresetHeld preset) (reference D.meaning self.old)) }
     {
         self.control.state.held = preset;
     }
 
     // The held preset is loaded, and is held no more.
     pub fn load(&mut self)
-        ensures after { over self.new.control.state (meaning self.new.drive) ≡ load (over self.old.control.state (meaning self.old.drive)) }
-        ensures follows { Follows meaning obeys self.old self.new (response PresetLoaded (reference meaning self.old)) }
+        ensures after { over self.new.control.state (D.meaning self.new.drive) ≡ load (over self.old.control.state (D.meaning self.old.drive)) }
+        ensures follows { Follows D.meaning D.obeys self.old self.new (response PresetLoaded (reference D.meaning self.old)) }
     {
         load_preset(&mut self.control, self.drive.place());
     }
 
     // Why this tick takes the axis down, if it does.
     fn alarm(&self, input: &Input) -> Option<Note>
-        ensures { result ≡ alarm input.now (over self.now.control.state (meaning self.now.drive)) }
+        ensures { result ≡ alarm input.now (over self.now.control.state (D.meaning self.now.drive)) }
     {
         if input.stop {
             return Some(Note::StopInput);
@@ -121,8 +121,8 @@ impl<D: Drive> Axis<D> {
     }
 
     fn take_down(&mut self, why: Note)
-        ensures after { over self.new.control.state (meaning self.new.drive) ≡ taken_down why (over self.old.control.state (meaning self.old.drive)) }
-        ensures follows { Follows meaning obeys self.old self.new (taken_down_response why (reference meaning self.old)) }
+        ensures after { over self.new.control.state (D.meaning self.new.drive) ≡ taken_down why (over self.old.control.state (D.meaning self.old.drive)) }
+        ensures follows { Follows D.meaning D.obeys self.old self.new (taken_down_response why (reference D.meaning self.old)) }
     {
         self.control.state.motion.mode = Mode::Down;
         self.control.state.motion.speed = 0;
@@ -133,8 +133,8 @@ impl<D: Drive> Axis<D> {
 
     // The axis stays up: it moves by its mode and gives one step, of 0 too.
     fn advance(&mut self, input: &Input)
-        ensures after { over self.new.control.state (meaning self.new.drive) ≡ moved input.now (over self.old.control.state (meaning self.old.drive)) }
-        ensures follows { Follows meaning obeys self.old self.new (moved_response input.now (reference meaning self.old)) }
+        ensures after { over self.new.control.state (D.meaning self.new.drive) ≡ moved input.now (over self.old.control.state (D.meaning self.old.drive)) }
+        ensures follows { Follows D.meaning D.obeys self.old self.new (moved_response input.now (reference D.meaning self.old)) }
     {
         let seen = look(&self.drive);
         let home = advance(&mut self.control, input, &seen);
@@ -145,7 +145,7 @@ impl<D: Drive> Axis<D> {
 
 // What a drive shows.
 fn look<D: Drive>(drive: &D) -> Seen
-    ensures { result ≡ seen (meaning drive.now) }
+    ensures { result ≡ seen (D.meaning drive.now) }
 {
     Seen {
         place: drive.place(),
@@ -156,8 +156,8 @@ fn look<D: Drive>(drive: &D) -> Seen
 
 // Names the place home, where home was found. A home beyond the reach leaves the drive as it was.
 fn name_home<D: Drive>(drive: &mut D, home: Option<i32>)
-    ensures after { meaning drive.new ≡ after_naming home (meaning drive.old) }
-    ensures told { Told obeys drive.old (naming home []) drive.new }
+    ensures after { D.meaning drive.new ≡ after_naming home (D.meaning drive.old) }
+    ensures told { Told D.obeys drive.old (naming home []) drive.new }
 {
     if let Some(place) = home {
         let _ = drive.name(place);
@@ -166,8 +166,8 @@ fn name_home<D: Drive>(drive: &mut D, home: Option<i32>)
 
 // The one step of a tick. A drive that refuses it is as it was.
 fn give_step<D: Drive>(drive: &mut D, motion: Motion)
-    ensures after { meaning drive.new ≡ after_motion motion (meaning drive.old) }
-    ensures told { Told obeys drive.old (step_of motion ∷ []) drive.new }
+    ensures after { D.meaning drive.new ≡ after_motion motion (D.meaning drive.old) }
+    ensures told { Told D.obeys drive.old (step_of motion ∷ []) drive.new }
 {
     let _ = drive.step(motion.step());
 }

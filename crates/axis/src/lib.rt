@@ -3,6 +3,9 @@
 // specs/Reference.antt states the reference axis: the rules over a drive that is only its four values. Every call here does
 // to the state, and to what the drive means, what the reference axis does. The rules of the single modes are stated in the
 // crate `modes`, those of the moves in the crate `moves`.
+
+#![tactic(auto)]
+
 mod calls;
 mod examples;
 pub mod over_drive;

@@ -3,6 +3,9 @@
 //
 // The expected lines in the crate's file `stdout` are not made by this program: reckoning/blocks.py prints them, from the rules as
 // docs/blocks.md and docs/refusals.md have them, with words as texts. It also writes the cases into table.rt.
+
+#![tactic(auto)]
+
 mod movesets;
 mod records;
 mod table;

@@ -3,6 +3,9 @@
 // specs/Questions.antt says what an answer is: the value, or the first question that got a no. specs/Directory.antt has the
 // questions of a block's outer form, specs/Records.antt how questions are put to its records, and Parameters.antt,
 // Commands.antt and Presets.antt the questions and the values of each kind. Every reader is proved to answer that.
+
+#![tactic(auto)]
+
 mod bounds;
 pub mod commands;
 mod directory;

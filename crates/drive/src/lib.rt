@@ -3,6 +3,9 @@
 // The rules: specs/Values.antt says what every call does to a drive, specs/Orders.antt what a drive can be told and that it was
 // told just that, specs/Refusals.antt numbers the refusals, specs/Output.antt has the analog drive's output, specs/Analog.antt
 // what orders make of an analog drive, and specs/Mirror.antt the reversed mount.
+
+#![tactic(auto)]
+
 ghost use Rattle.std.specs.Prelude.{◌≡◌};
 ghost use Rattle.drive.specs.Orders.{Order, Step, Feel, Name, Wake, Sleep};
 ghost use Rattle.drive.specs.Values.{Values, Lawful, step_answer, after_step, after_feel, name_answer, after_name, after_wake, after_sleep};

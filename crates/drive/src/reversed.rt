@@ -14,7 +14,7 @@ pub struct Reversed<D> {
 impl<D: Drive> Reversed<D> {
     pub fn new(drive: D) -> Reversed<D>
         ensures below { result.drive ≡ drive }
-        ensures mirrored { reversed_values meaning result ≡ mirror (meaning drive) }
+        ensures mirrored { reversed_values D.meaning result ≡ mirror (D.meaning drive) }
     {
         Reversed { drive }
     }
@@ -36,7 +36,7 @@ impl<D: Drive> Reversed<D> {
     // less is still beyond every reach and takes every gap to its ceiling, so no drive can tell the difference.
     fn opposite(&self, counts: i32) -> i32
         ensures value { result ≡ saturate_to_bits 31 (neg_ℤ counts) }
-        ensures mirrors { Opposite (meaning self.now.drive) counts result }
+        ensures mirrors { Opposite (D.meaning self.now.drive) counts result }
     {
         0i32.saturating_sub(counts)
     }

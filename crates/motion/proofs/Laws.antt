@@ -1,6 +1,6 @@
 -- The laws of planning.
 -- Assumes nothing.
-use Rattle.std.proofs.Common.{◌≡◌, ℕ, zero, suc, ◌+◌, ◌-◌, ◌<◌, ◌≤◌, Bool, true, false, leb, refl, ap, ⊎_elim, zero-le, le_refl, le_antisymm, eq-or-lt_of_le, arith}
+use Rattle.std.proofs.Common.{◌≡◌, ℕ, zero, suc, ◌-◌, ◌<◌, ◌≤◌, Bool, true, false, leb, refl, ap, ⊎_elim, zero-le, le_refl, le_antisymm, eq-or-lt_of_le, arith}
 use Rattle.std.proofs.lemmas.Bool.{leb-true, leb-false}
 use Rattle.motion.specs.Braking.{braking}
 use Rattle.motion.specs.Planning.{Planned, speed_cap, fastest_fitting}

@@ -8,6 +8,9 @@
 // overflows: the longest braking distance is that of 65,535 at a deceleration of 1, 65,535 × 65,536 ÷ 2 counts.
 // The card stays far below: its rates reach 10,154 (7,996 under an override of 127 in 100), its accelerations and
 // decelerations 9,999, and its rooms 40,000,000 counts.
+
+#![tactic(auto)]
+
 mod distance;
 mod rates;
 #[cfg(test)]

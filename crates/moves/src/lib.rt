@@ -2,6 +2,9 @@
 //
 // specs/Moves.antt and specs/State.antt have the parts, with the ranges that every state keeps; specs/SetUp.antt,
 // specs/Completing.antt and specs/Partner.antt state the rules; specs/Numbers.antt gives modes and notes their numbers.
+
+#![tactic(auto)]
+
 mod completing;
 pub mod control;
 pub mod moves;

@@ -2,6 +2,9 @@
 //
 // specs/Control.antt says which control words are right, specs/Actions.antt which questions are put to each kind of move and
 // what it says, and specs/Movesets.antt puts them together, move by move. The reader is proved to answer that.
+
+#![tactic(auto)]
+
 mod actions;
 mod control;
 pub mod moveset;

@@ -17,8 +17,8 @@ pub enum Call {
 
 impl Call {
     pub fn make<D: Drive>(self, drive: &mut D) -> Result<(), Refusal>
-        ensures answer { result ≡ call_answer (meaning drive.old) self }
-        ensures after { meaning drive.new ≡ after_call (meaning drive.old) self }
+        ensures answer { result ≡ call_answer (D.meaning drive.old) self }
+        ensures after { D.meaning drive.new ≡ after_call (D.meaning drive.old) self }
     {
         match self {
             Call::Step(counts) => drive.step(counts),

@@ -3,6 +3,9 @@
 // The expected lines in the crate's file `stdout` are not made by this program. reckoning/vectors.py prints them from a list of
 // the cases of its own and from the rules as docs/ has them, by other means: words as text, speeds by trying every one,
 // outputs by fractions. So a case that is missing on one side, or that comes out otherwise, shows as a difference.
+
+#![tactic(auto)]
+
 mod calls;
 mod cases;
 mod drives;

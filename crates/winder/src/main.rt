@@ -15,6 +15,9 @@
 // - Ticks 27 to 32, the offset: from 73 to 73 + 16 + 3 = 92. Steps 2, 4, 4, 4, 3, 2 are these 19 counts.
 // - Ticks 34 to 42, the dwell: 5 * 20 / 12, rounded up, is 9.
 // - Tick 51, the preset: place 73 is called 0, so the last move ends at place 103, which is shown as 30.
+
+#![tactic(auto)]
+
 mod arguments;
 mod axis_report;
 mod axis_run;

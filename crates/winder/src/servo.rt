@@ -15,7 +15,7 @@ pub struct Servo<D> {
 impl<D: Drive> Servo<D> {
     pub fn new(drive: D) -> Servo<D>
         ensures drive { result.drive ≡ drive }
-        ensures state { servo_state meaning result ≡ servo_new (meaning drive) }
+        ensures state { servo_state D.meaning result ≡ servo_new (D.meaning drive) }
     {
         Servo {
             drive,
@@ -25,8 +25,8 @@ impl<D: Drive> Servo<D> {
 
     // One tick: the encoder reports, then the drive is stepped.
     pub fn tick(&mut self, step: i32) -> Result<(), Refusal>
-        ensures answer { result ≡ servo_answer (servo_state meaning self.old) step }
-        ensures after { servo_state meaning self.new ≡ servo_ticked (servo_state meaning self.old) step }
+        ensures answer { result ≡ servo_answer (servo_state D.meaning self.old) step }
+        ensures after { servo_state D.meaning self.new ≡ servo_ticked (servo_state D.meaning self.old) step }
     {
         self.drive.feel(self.unreported, true);
         self.unreported = 0;

@@ -1,8 +1,7 @@
 -- Four decimal digits packed into a word and taken out of it again.
-use Rattle.std.proofs.Common.{◌≡◌, ℕ, ◌+◌, ◌*◌, ◌/◌, ◌%◌, ◌^◌, ◌<◌, ◌≤◌, Bool, true, false, ◌&&◌, leb, sym, refl, ap, ◌∙◌, arith}
-use Rattle.words.specs.Words.{four_decimal, four_digits, three_digits, three_decimal, digit}
+use Rattle.std.proofs.Common.{◌≡◌, ℕ, ◌+◌, ◌*◌, ◌/◌, ◌%◌, ◌^◌, ◌<◌, arith}
+use Rattle.words.specs.Words.{digit}
 use Rattle.words.specs.Written.{packed}
-use Rattle.std.proofs.lemmas.Bool.Decides.{nat_tests}
 
 -- the word that four digits make, each in its place
 abbrev pub hex : ℕ → ℕ → ℕ → ℕ → ℕ

@@ -1,9 +1,9 @@
 -- Positions written and read.
-use Rattle.std.proofs.Common.{◌≡◌, ℕ, zero, suc, ◌+◌, ◌*◌, ◌/◌, ◌%◌, ◌^◌, ◌<◌, ◌≤◌, Bool, true, false, cond, not, ◌&&◌, eqb, leb, ◌⊎◌, ℤ, pos, negsuc, neg_ℤ, nat_abs, Ok, sym, refl, ap, ◌∙◌, inl, inr, arith}
+use Rattle.std.proofs.Common.{◌≡◌, ℕ, zero, suc, ◌+◌, ◌*◌, ◌/◌, ◌%◌, ◌^◌, ◌<◌, ◌≤◌, Bool, true, false, cond, ◌⊎◌, ℤ, pos, negsuc, neg_ℤ, nat_abs, Ok, sym, refl, ap, ◌∙◌, inl, inr, arith}
 use Rattle.std.proofs.lemmas.Int.{ints}
 use Rattle.std.proofs.lemmas.Bool.Decides.{nat_tests}
-use Rattle.words.specs.declared.word.Bit.TheVariants.{B14, B15, B16, B17}
-use Rattle.words.specs.Words.{on, digit, four_decimal, four_digits, three_digits, three_decimal, position_start, position_size, position_value}
+use Rattle.words.specs.declared.word.Bit.TheVariants.{B17}
+use Rattle.words.specs.Words.{on, digit, four_decimal, four_digits, position_start, position_size, position_value}
 use Rattle.words.specs.declared.fault.AxisId.{AxisId}
 use Rattle.words.specs.Readings.{position_reading}
 use Rattle.words.specs.Written.{packed, sign_bit, Reads, Written}

@@ -3,6 +3,9 @@
 //
 // specs/Faults.antt gives each question and each axis its number, specs/Words.antt says what the
 // digits and bits of words mean, and specs/Readings.antt what each reader answers.
+
+#![tactic(auto)]
+
 pub mod dwell;
 pub mod fault;
 pub mod number;

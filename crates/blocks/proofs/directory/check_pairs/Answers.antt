@@ -9,8 +9,8 @@ returns-then-from-start c =
     let s = pairs_step c.args.words.now (end_question c.args.record_length c.args.words.now) c.args.record_length c.loop-i.start c.args.count c.loop-i.i c.loop-i-test.true in
     grind (arith, nat_tests)
 
-pub returns-then-from-record-length : goal.returns-then-from-record-length
-returns-then-from-record-length c =
+pub returns-then-from-record_length : goal.returns-then-from-record_length
+returns-then-from-record_length c =
     let s = pairs_step c.args.words.now (end_question c.args.record_length c.args.words.now) c.args.record_length c.loop-i.start c.args.count c.loop-i.i c.loop-i-test.true in
     grind (arith, nat_tests)
 

@@ -7,17 +7,17 @@ use Rattle.blocks.specs.Parameters.{relations_hold, bounded_rates, parameter_ran
 use Rattle.blocks.specs.Questions.{answer, ask, refusal}
 use Rattle.blocks.proofs.parameters.check_parameters.Goals as goal
 
-pub returns-then-not-relations-hold : goal.returns-then-not-relations-hold
+pub returns-then-not-relations_hold : goal.returns-then-not-relations_hold
 unfolding parameter_ranges
-returns-then-not-relations-hold c =
+returns-then-not-relations_hold c =
     let holds = relations_hold c.args.reach c.args.parameters in
-    ap Err c.out-of-range.ensures
-    ∙ sym (cond-false holds (answer (ranges_from (Some c.args.axis) c.args.start 9 (bounded_rates c.args.parameters)) (tt {0})) (Err (refusal (ask Range (Some c.args.axis) c.args.start holds))) (sym (c.relations_hold.ensures ∙ ap (λ x. relations_hold x c.args.parameters) (to_z-of_z w32 c.args.reach c.ranges.reach)) ∙ c.if-not-relations-hold.true))
+    ap Err c.out_of_range.ensures
+    ∙ sym (cond-false holds (answer (ranges_from (Some c.args.axis) c.args.start 9 (bounded_rates c.args.parameters)) (tt {0})) (Err (refusal (ask Range (Some c.args.axis) c.args.start holds))) (sym (c.relations_hold.ensures ∙ ap (λ x. relations_hold x c.args.parameters) (to_z-of_z w32 c.args.reach c.ranges.reach)) ∙ c.if-not-relations_hold.true))
 
 pub returns : goal.returns
 unfolding parameter_ranges
 returns c =
     let holds = relations_hold c.args.reach c.args.parameters in
-    c.check-bounds.ensures
+    c.check_bounds.ensures
     ∙ ap (λ l. answer (ranges_from (Some c.args.axis) c.args.start 9 l) (tt {0})) c.bounded_rates.ensures
-    ∙ sym (cond-true holds (answer (ranges_from (Some c.args.axis) c.args.start 9 (bounded_rates c.args.parameters)) (tt {0})) (Err (refusal (ask Range (Some c.args.axis) c.args.start holds))) (sym (c.relations_hold.ensures ∙ ap (λ x. relations_hold x c.args.parameters) (to_z-of_z w32 c.args.reach c.ranges.reach)) ∙ c.if-not-relations-hold.false))
+    ∙ sym (cond-true holds (answer (ranges_from (Some c.args.axis) c.args.start 9 (bounded_rates c.args.parameters)) (tt {0})) (Err (refusal (ask Range (Some c.args.axis) c.args.start holds))) (sym (c.relations_hold.ensures ∙ ap (λ x. relations_hold x c.args.parameters) (to_z-of_z w32 c.args.reach c.ranges.reach)) ∙ c.if-not-relations_hold.false))

@@ -5,29 +5,29 @@ use Rattle.blocks.specs.Records.{at_start, record_from}
 use Rattle.blocks.proofs.Passes.{one_no, second_no, third_no, all_read}
 use Rattle.blocks.proofs.parameters.read_all.Goals as goal
 
-pub returns-in-err-read-record : goal.returns-in-err-read-record
-returns-in-err-read-record c =
+pub returns-in_err-read_record : goal.returns-in_err-read_record
+returns-in_err-read_record c =
     let ws = c.args.words.now in
     let s = c.args.starts in
-    let p = err_from_is_err_and c.from-residual.result c.from-residual.ensures.1 in
-    record { value = p.1 ∙ ap Err p.2 ∙ one_no (λ a o. at_start (parameter_digits ws (Some a)) o) (record_from (parameters_written ws)) s.one s.two s.three _ c.in-err-read-record.ensures.value; room = search rules }
+    let p = err_from_is_err_and c.from_residual.result c.from_residual.ensures.1 in
+    record { value = p.1 ∙ ap Err p.2 ∙ one_no (λ a o. at_start (parameter_digits ws (Some a)) o) (record_from (parameters_written ws)) s.one s.two s.three _ c.in_err-read_record.ensures.value; room = search rules }
 
-pub returns-in-err-read-record-2 : goal.returns-in-err-read-record-2
-returns-in-err-read-record-2 c =
+pub returns-in_err-read_record-2 : goal.returns-in_err-read_record-2
+returns-in_err-read_record-2 c =
     let ws = c.args.words.now in
     let s = c.args.starts in
-    let p = err_from_is_err_and c.from-residual-in-err-read-record-2.result c.from-residual-in-err-read-record-2.ensures.1 in
-    record { value = p.1 ∙ ap Err p.2 ∙ second_no (λ a o. at_start (parameter_digits ws (Some a)) o) (record_from (parameters_written ws)) s.one s.two s.three _ _ c.in-ok-read-record.ensures.value c.in-err-read-record-2.ensures.value; room = search rules }
+    let p = err_from_is_err_and c.from_residual-in_err-read_record-2.result c.from_residual-in_err-read_record-2.ensures.1 in
+    record { value = p.1 ∙ ap Err p.2 ∙ second_no (λ a o. at_start (parameter_digits ws (Some a)) o) (record_from (parameters_written ws)) s.one s.two s.three _ _ c.in_ok-read_record.ensures.value c.in_err-read_record-2.ensures.value; room = search rules }
 
-pub returns-in-err-read-record-3 : goal.returns-in-err-read-record-3
-returns-in-err-read-record-3 c =
+pub returns-in_err-read_record-3 : goal.returns-in_err-read_record-3
+returns-in_err-read_record-3 c =
     let ws = c.args.words.now in
     let s = c.args.starts in
-    let p = err_from_is_err_and c.from-residual-in-err-read-record-3.result c.from-residual-in-err-read-record-3.ensures.1 in
-    record { value = p.1 ∙ ap Err p.2 ∙ third_no (λ a o. at_start (parameter_digits ws (Some a)) o) (record_from (parameters_written ws)) s.one s.two s.three _ _ _ c.in-ok-read-record.ensures.value c.in-ok-read-record-2.ensures.value c.in-err-read-record-3.ensures.value; room = search rules }
+    let p = err_from_is_err_and c.from_residual-in_err-read_record-3.result c.from_residual-in_err-read_record-3.ensures.1 in
+    record { value = p.1 ∙ ap Err p.2 ∙ third_no (λ a o. at_start (parameter_digits ws (Some a)) o) (record_from (parameters_written ws)) s.one s.two s.three _ _ _ c.in_ok-read_record.ensures.value c.in_ok-read_record-2.ensures.value c.in_err-read_record-3.ensures.value; room = search rules }
 
 pub returns : goal.returns
 returns c =
     let ws = c.args.words.now in
     let s = c.args.starts in
-    record { value = all_read (λ a o. at_start (parameter_digits ws (Some a)) o) (record_from (parameters_written ws)) s.one s.two s.three _ _ _ c.in-ok-read-record.ensures.value c.in-ok-read-record-2.ensures.value c.in-ok-read-record-3.ensures.value; room = search rules }
+    record { value = all_read (λ a o. at_start (parameter_digits ws (Some a)) o) (record_from (parameters_written ws)) s.one s.two s.three _ _ _ c.in_ok-read_record.ensures.value c.in_ok-read_record-2.ensures.value c.in_ok-read_record-3.ensures.value; room = search rules }

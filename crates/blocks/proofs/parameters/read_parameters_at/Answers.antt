@@ -6,24 +6,24 @@ use Rattle.blocks.specs.Positions.{position_digits, positions_from}
 use Rattle.blocks.proofs.Questions.{passed, passed_value, passed_all, stopped, stopped_all}
 use Rattle.blocks.proofs.parameters.read_parameters_at.Goals as goal
 
-pub returns-in-err-positions : goal.returns-in-err-positions
+pub returns-in_err-positions : goal.returns-in_err-positions
 unfolding parameter_digits parameters_written
-returns-in-err-positions c =
+returns-in_err-positions c =
     let ws = c.args.words.now in
     let a = Some c.args.axis in
     let at = c.args.start in
-    let p = err_from_is_err_and c.from-residual.result c.from-residual.ensures.1 in
-    p.1 ∙ ap Err p.2 ∙ sym (stopped (position_digits ws a at 1 4) (number_digits ws a at 9 8) _ (parameters_written ws at) _ c.in-err-positions.ensures)
+    let p = err_from_is_err_and c.from_residual.result c.from_residual.ensures.1 in
+    p.1 ∙ ap Err p.2 ∙ sym (stopped (position_digits ws a at 1 4) (number_digits ws a at 9 8) _ (parameters_written ws at) _ c.in_err-positions.ensures)
 
-pub returns-in-err-numbers : goal.returns-in-err-numbers
+pub returns-in_err-numbers : goal.returns-in_err-numbers
 unfolding parameter_digits parameters_written
-returns-in-err-numbers c =
+returns-in_err-numbers c =
     let ws = c.args.words.now in
     let a = Some c.args.axis in
     let at = c.args.start in
-    let p = err_from_is_err_and c.from-residual-in-err-numbers.result c.from-residual-in-err-numbers.ensures.1 in
-    let t = passed (position_digits ws a at 1 4) (number_digits ws a at 9 8) _ _ (parameters_written ws at) c.in-ok-positions.ensures in
-    p.1 ∙ ap Err p.2 ∙ sym (t ∙ stopped_all (number_digits ws a at 9 8) _ (parameters_written ws at) _ c.in-err-numbers.ensures)
+    let p = err_from_is_err_and c.from_residual-in_err-numbers.result c.from_residual-in_err-numbers.ensures.1 in
+    let t = passed (position_digits ws a at 1 4) (number_digits ws a at 9 8) _ _ (parameters_written ws at) c.in_ok-positions.ensures in
+    p.1 ∙ ap Err p.2 ∙ sym (t ∙ stopped_all (number_digits ws a at 9 8) _ (parameters_written ws at) _ c.in_err-numbers.ensures)
 
 pub returns : goal.returns
 unfolding parameter_digits parameters_written
@@ -32,8 +32,8 @@ returns c =
     let a = Some c.args.axis in
     let at = c.args.start in
     let v = parameters_written ws at in
-    let t = passed (position_digits ws a at 1 4) (number_digits ws a at 9 8) _ _ v c.in-ok-positions.ensures in
-    let u = passed_all (number_digits ws a at 9 8) _ _ v c.in-ok-numbers.ensures in
-    let ps = passed_value (position_digits ws a at 1 4) _ _ c.in-ok-positions.ensures in
-    let ns = passed_value (number_digits ws a at 9 8) _ _ c.in-ok-numbers.ensures in
-    ap Ok (c.assemble.ensures ∙ ap (λ l. assembled l c.in-ok-numbers.numbers) ps ∙ ap (assembled (positions_from ws at 1 4)) ns) ∙ sym (t ∙ u)
+    let t = passed (position_digits ws a at 1 4) (number_digits ws a at 9 8) _ _ v c.in_ok-positions.ensures in
+    let u = passed_all (number_digits ws a at 9 8) _ _ v c.in_ok-numbers.ensures in
+    let ps = passed_value (position_digits ws a at 1 4) _ _ c.in_ok-positions.ensures in
+    let ns = passed_value (number_digits ws a at 9 8) _ _ c.in_ok-numbers.ensures in
+    ap Ok (c.assemble.ensures ∙ ap (λ l. assembled l c.in_ok-numbers.numbers) ps ∙ ap (assembled (positions_from ws at 1 4)) ns) ∙ sym (t ∙ u)

@@ -11,11 +11,11 @@ use Rattle.blocks.proofs.positions.read_positions.Goals as goal
 pub loop-i-init : goal.loop-i-init
 loop-i-init g c = rw (add-zero, sub-zero)
 
-pub returns-in-err-positions : goal.returns-in-err-positions
-returns-in-err-positions g c =
-    let p = err_from_is_err_and c.from-residual.result c.from-residual.ensures.1 in
+pub returns-in_err-positions : goal.returns-in_err-positions
+returns-in_err-positions g c =
+    let p = err_from_is_err_and c.from_residual.result c.from_residual.ensures.1 in
     p.1 ∙ ap Err p.2
-    ∙ positions_stop c.args.words.now c.args.axis c.args.start c.args.first g.row.N c.loop-i.i c.loop-i.positions c.loop-i-test.true _ c.in-err-positions.ensures
+    ∙ positions_stop c.args.words.now c.args.axis c.args.start c.args.first g.row.N c.loop-i.i c.loop-i.positions c.loop-i-test.true _ c.in_err-positions.ensures
     ∙ c.loop-i.invariant
 
 pub loop-i-preserved : goal.loop-i-preserved
@@ -23,10 +23,10 @@ loop-i-preserved g c =
     let ws = c.args.words.now in
     let j = c.args.first + 2 * (c.loop-i.i + 1) in
     let n = g.row.N - (c.loop-i.i + 1) in
-    let v = c.in-ok-positions.field-0 in
-    let f : SFits w32 c.in-ok-positions.field-0 = search rules in
+    let v = c.in_ok-positions.field-0 in
+    let f : SFits w32 c.in_ok-positions.field-0 = search rules in
     ap (λ x. answer (position_digits ws (Some c.args.axis) c.args.start j n) (filled (set c.loop-i.positions c.loop-i.i x) (c.loop-i.i + 1) (positions_from ws c.args.start j n))) (to_z-of_z w32 v f)
-    ∙ positions_go ws c.args.axis c.args.start c.args.first g.row.N c.loop-i.i c.loop-i.positions c.loop-i-test.true v c.in-ok-positions.ensures
+    ∙ positions_go ws c.args.axis c.args.start c.args.first g.row.N c.loop-i.i c.loop-i.positions c.loop-i-test.true v c.in_ok-positions.ensures
     ∙ c.loop-i.invariant
 
 pub returns : goal.returns

@@ -6,4 +6,4 @@ use Rattle.moves.proofs.shown.shows.Goals as goal
 pub returns : goal.returns
 returns c =
     let same : to_z w64 (of_z w64 (to_z w64 (of_z w64 c.from.result) -ℤ to_z w64 (of_z w64 c.args.base))) ≡ c.args.place -ℤ c.args.base = omega (arith, ints) in
-    c.in-shown-range.ensures ∙ ap (λ z. not (beyond_shown z)) same
+    c.in_shown_range.ensures ∙ ap (λ z. not (beyond_shown z)) same

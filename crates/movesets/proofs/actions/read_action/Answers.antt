@@ -8,15 +8,15 @@ pub returns-in-true-true : goal.returns-in-true-true
 returns-in-true-true c =
     let h = sym (c.in-true-true.ensures ∙ ap (λ w. on B11 w.bits) c.word-control.ensures) in
     let k = sym (c.in-true-true.ensures' ∙ ap (λ w. on B10 w.bits) c.word-control.ensures) in
-    c.read-dwell-action.ensures ∙ sym (is_dwell_action c.args.words.now (Some c.args.axis) c.args.at h k)
+    c.read_dwell_action.ensures ∙ sym (is_dwell_action c.args.words.now (Some c.args.axis) c.args.at h k)
 
 pub returns-in-true-false : goal.returns-in-true-false
 returns-in-true-false c =
     let h = sym (c.in-true-false.ensures ∙ ap (λ w. on B11 w.bits) c.word-control.ensures) in
     let k = sym (c.in-true-false.ensures' ∙ ap (λ w. on B10 w.bits) c.word-control.ensures) in
-    c.read-preset-action.ensures ∙ sym (is_preset_action c.args.words.now (Some c.args.axis) c.args.at h k)
+    c.read_preset_action.ensures ∙ sym (is_preset_action c.args.words.now (Some c.args.axis) c.args.at h k)
 
 pub returns-in-false-default : goal.returns-in-false-default
 returns-in-false-default c =
     let h = sym (c.in-false-default.ensures ∙ ap (λ w. on B11 w.bits) c.word-control.ensures) in
-    c.read-travel-action.ensures ∙ sym (is_travel_action c.args.words.now (Some c.args.axis) c.args.at h)
+    c.read_travel_action.ensures ∙ sym (is_travel_action c.args.words.now (Some c.args.axis) c.args.at h)

@@ -21,14 +21,14 @@ returns-in-Err g c h =
     let heading = from_bits c.loop-tick.tick c.loop-tick.bench c.args.counts c.ranges.counts c.loop-tick.invariant in
     never_refused c.args.counts c.loop-tick.tick _ c.loop-tick.bench c.tick.new.self c.tick.result h (heading h) c.tick.ensures c.in-Err.refusal c.in-Err.is
 
-pub returns-then-is-done : goal.returns-then-is-done
-returns-then-is-done g c h =
+pub returns-then-is_done : goal.returns-then-is_done
+returns-then-is_done g c h =
     let heading = from_bits c.loop-tick.tick c.loop-tick.bench c.args.counts c.ranges.counts c.loop-tick.invariant in
-    let there = arrives c.args.counts c.loop-tick.tick _ c.loop-tick.bench c.tick.new.self c.tick.result h (heading h) c.tick.ensures (lit< tt) (c.is-done.ensures.0 c.if-is-done.true) in
+    let there = arrives c.args.counts c.loop-tick.tick _ c.loop-tick.bench c.tick.new.self c.tick.result h (heading h) c.tick.ensures (lit< tt) (c.is_done.ensures.0 c.if-is_done.true) in
     search rules
 
 pub loop-tick-preserved : goal.loop-tick-preserved
 loop-tick-preserved g c =
     let heading = from_bits c.loop-tick.tick c.loop-tick.bench c.args.counts c.ranges.counts c.loop-tick.invariant in
     to_bits (c.loop-tick.tick + 1) c.tick.new.self c.args.counts c.ranges.counts
-    (λ h. stays_on_course c.args.counts c.loop-tick.tick _ c.loop-tick.bench c.tick.new.self c.tick.result h (heading h) c.tick.ensures (lit< tt) (lit≤ tt) (lit≤ tt) (not_from_Decides c.is-done.result c.is-done.ensures c.if-is-done.false))
+    (λ h. stays_on_course c.args.counts c.loop-tick.tick _ c.loop-tick.bench c.tick.new.self c.tick.result h (heading h) c.tick.ensures (lit< tt) (lit≤ tt) (lit≤ tt) (not_from_Decides c.is_done.result c.is_done.ensures c.if-is_done.false))

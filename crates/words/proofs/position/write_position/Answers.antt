@@ -9,6 +9,6 @@ pub returns : goal.returns
 returns c =
     let n = c.args.counts in
     let same = to_z-of_z w32 n c.ranges.counts in
-    written n c.unsigned-abs-size.result _ _ (c.unsigned-abs-size.ensures.value ∙ ap nat_abs same) (omega arith)
-    (ap (λ s. s + c.pack.result) (c.sign-bit.ensures ∙ ap sign_bit same) ∙ ap (λ p. sign_bit n + p) c.pack.ensures)
+    written n c.unsigned_abs-size.result _ _ (c.unsigned_abs-size.ensures.value ∙ ap nat_abs same) (omega arith)
+    (ap (λ s. s + c.pack.result) (c.sign_bit.ensures ∙ ap sign_bit same) ∙ ap (λ p. sign_bit n + p) c.pack.ensures)
     c.pack-2.ensures

@@ -7,8 +7,8 @@ use Rattle.drive.proofs.analog.output.weighted_sum.Goals as goal
 sum : (c : goal.Start) → SFits w64 ((c.args.k1 *ℤ c.args.gap) +ℤ (c.args.k2 *ℤ c.args.latest))
 sum c = sum_fits _ _ _ _ c.requires.0 c.ranges.gap c.requires.1 c.ranges.latest
 
-pub overflow-add-result : goal.overflow-add-result
-overflow-add-result c =
+pub overflow_add-result : goal.overflow_add-result
+overflow_add-result c =
     let one = wide_product c.args.k1 c.args.gap c.requires.0 c.ranges.gap in
     let two = wide_product c.args.k2 c.args.latest c.requires.1 c.ranges.latest in
     rw (one, two) (sum c)

@@ -3,7 +3,7 @@ use Rattle.std.proofs.lemmas.Int.{ints}
 use Rattle.drive.proofs.reversed.ReversedDrive.place.Goals as goal
 
 -- The place below is within the reach, so its negative fits.
-pub overflow-sub-result : goal.overflow-sub-result
-overflow-sub-result g c =
+pub overflow_sub-result : goal.overflow_sub-result
+overflow_sub-result g c =
     let lawful = g.met.D.Drive.lawful c.args.self.now.drive in
     omega (arith, ints)

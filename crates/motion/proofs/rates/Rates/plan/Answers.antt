@@ -10,5 +10,5 @@ returns c =
       planned = planned;
       only = λ u p. planned_unique _ _ _ _ _ p planned;
       value = planned_unique _ _ _ _ _ planned (fastest_planned _ _ _);
-      within-room = planned_le_room _ _ _ _ planned;
+      within_room = planned_le_room _ _ _ _ planned;
     }
