@@ -11,11 +11,11 @@ loop-record-init c =
 
 pub returns-then-axis-above : goal.returns-then-axis-above
 returns-then-axis-above c =
-    let s = axes_step c.args.words.now c.loop-record.above c.args.record_length c.loop-record.start c.args.count c.loop-record.-record c.loop-record-test.true in
+    let s = axes_step c.args.words.now c.loop-record.above c.args.record_length c.loop-record.start c.args.count c.loop-record._record c.loop-record-test.true in
     grind (arith, nat_tests)
 
 pub loop-record-preserved : goal.loop-record-preserved
 loop-record-preserved c =
-    let s = axes_step c.args.words.now c.loop-record.above c.args.record_length c.loop-record.start c.args.count c.loop-record.-record c.loop-record-test.true in
-    let e = sym (end_step c.args.record_length c.loop-record.start c.args.count c.loop-record.-record c.loop-record-test.true) ∙ c.loop-record.invariant.1 in
+    let s = axes_step c.args.words.now c.loop-record.above c.args.record_length c.loop-record.start c.args.count c.loop-record._record c.loop-record-test.true in
+    let e = sym (end_step c.args.record_length c.loop-record.start c.args.count c.loop-record._record c.loop-record-test.true) ∙ c.loop-record.invariant.1 in
     (grind (arith, nat_tests), e, λ h. within _ _ _ _ _ e h)

@@ -6,6 +6,6 @@ use Rattle.blocks.proofs.directory.check_axes.Given as goal
 -- What is left to ask gives the answer to all.
 abbrev pub invariant-loop-record : goal.invariant-loop-record
 invariant-loop-record l =
-    (answer (axes_from l.words l.above (starts_from l.record_length l.start (l.count - l.-record))) (tt {0}) ≡ answer (axis_questions l.record_length l.words) (tt {0}))
-    × (end_from l.record_length l.start (l.count - l.-record) ≡ length l.words)
-    × (l.-record < l.count → l.start + l.record_length ≤ length l.words)
+    (answer (axes_from l.words l.above (starts_from l.record_length l.start (l.count - l._record))) (tt {0}) ≡ answer (axis_questions l.record_length l.words) (tt {0}))
+    × (end_from l.record_length l.start (l.count - l._record) ≡ length l.words)
+    × (l._record < l.count → l.start + l.record_length ≤ length l.words)

@@ -11,11 +11,11 @@ loop-record-init c =
 
 pub returns-then-words-start : goal.returns-then-words-start
 returns-then-words-start c =
-    let s = start_of_step c.args.words.now c.args.number c.args.record_length c.loop-record.start c.args.count c.loop-record.-record c.loop-record-test.true in
+    let s = start_of_step c.args.words.now c.args.number c.args.record_length c.loop-record.start c.args.count c.loop-record._record c.loop-record-test.true in
     grind (arith, nat_tests)
 
 pub loop-record-preserved : goal.loop-record-preserved
 loop-record-preserved c =
-    let s = start_of_step c.args.words.now c.args.number c.args.record_length c.loop-record.start c.args.count c.loop-record.-record c.loop-record-test.true in
-    let e = sym (end_step c.args.record_length c.loop-record.start c.args.count c.loop-record.-record c.loop-record-test.true) ∙ c.loop-record.invariant.1 in
+    let s = start_of_step c.args.words.now c.args.number c.args.record_length c.loop-record.start c.args.count c.loop-record._record c.loop-record-test.true in
+    let e = sym (end_step c.args.record_length c.loop-record.start c.args.count c.loop-record._record c.loop-record-test.true) ∙ c.loop-record.invariant.1 in
     (grind (arith, nat_tests), e, λ h. within _ _ _ _ _ e h)

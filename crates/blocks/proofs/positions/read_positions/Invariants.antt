@@ -7,5 +7,5 @@ use Rattle.blocks.proofs.positions.read_positions.Given as goal
 -- What is left to read, put behind what was read, gives the answer to all.
 abbrev pub invariant-loop-i : goal.invariant-loop-i
 invariant-loop-i o l =
-    answer (position_digits l.words (Some l.axis) l.start (l.first + 2 * l.i) (o.N - l.i)) (filled l.positions l.i (positions_from l.words l.start (l.first + 2 * l.i) (o.N - l.i)))
-    ≡ answer (position_digits l.words (Some l.axis) l.start l.first o.N) (filled (replicate o.N (pos 0)) 0 (positions_from l.words l.start l.first o.N))
+    answer (position_digits l.words (Some l.axis) l.start (l.first + 2 * l.i) (o.row.N - l.i)) (filled l.positions l.i (positions_from l.words l.start (l.first + 2 * l.i) (o.row.N - l.i)))
+    ≡ answer (position_digits l.words (Some l.axis) l.start l.first o.row.N) (filled (replicate o.row.N (pos 0)) 0 (positions_from l.words l.start l.first o.row.N))
