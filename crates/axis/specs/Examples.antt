@@ -2,7 +2,6 @@
 use Rattle.std.specs.Prelude.{◌≡◌, ℕ, zero, suc, true, false, List, [], ◌∷◌, replicate, ℤ, pos, ◌-ℤ◌, neg_ℤ, Some, None, slice_set}
 use Rattle.words.specs.declared.position.Target.TheVariants.{Absolute}
 use Rattle.words.specs.Written.{Reads}
-use Rattle.drive.specs.Values.{Values}
 use Rattle.modes.specs.declared.commands.Command.TheVariants.{Begin, SlideStop}
 use Rattle.modes.specs.declared.input.Input.{Input}
 use Rattle.moves.specs.declared.moves.Action.TheVariants.{Travel, Dwell}

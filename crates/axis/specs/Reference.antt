@@ -1,5 +1,5 @@
 -- The reference axis: the rules over a drive that is only its four values.
-use Rattle.std.specs.Prelude.{ℕ, Bool, true, false, cond, not, ℤ, pos, Some, None, Option}
+use Rattle.std.specs.Prelude.{Bool, true, false, cond, ℤ, pos, Some, None, Option}
 use Rattle.drive.specs.Values.{Values, after_step, after_feel, after_name, after_wake, after_sleep}
 use Rattle.modes.specs.declared.commands.Command.{Command}
 use Rattle.modes.specs.declared.commands.Command.TheVariants.{Begin, Start, SlideStop, SearchHome, JogForward, JogReverse, Reset, Override}

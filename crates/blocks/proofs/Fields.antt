@@ -1,5 +1,5 @@
 -- The words of a record, read one after the other.
-use Rattle.std.proofs.Common.{◌≡◌, ℕ, suc, ◌+◌, ◌-◌, ◌*◌, ◌<◌, ◌≤◌, cond, List, ◌∷◌, set, ℤ, Some, Ok, Err, Option, Result, sym, ap, ◌∙◌, add_assoc, arith}
+use Rattle.std.proofs.Common.{◌≡◌, ℕ, ◌+◌, ◌-◌, ◌*◌, ◌<◌, ◌≤◌, cond, List, set, ℤ, Some, Ok, Err, Option, Result, sym, ap, ◌∙◌, add_assoc, arith}
 use Rattle.words.specs.Readings.{position_reading}
 use Rattle.words.specs.Words.{four_decimal, position_start}
 use Rattle.words.specs.declared.fault.AxisId.{AxisId}
@@ -8,7 +8,7 @@ use Rattle.words.specs.declared.fault.Question.TheVariants.{Digits}
 use Rattle.blocks.specs.Directory.{word_at}
 use Rattle.blocks.specs.Numbers.{number, number_digits, numbers_from, filled}
 use Rattle.blocks.specs.Positions.{position, position_digits, positions_from}
-use Rattle.blocks.specs.Questions.{Asked, ask, refusal, answer}
+use Rattle.blocks.specs.Questions.{ask, refusal, answer}
 use Rattle.blocks.proofs.Questions.{go_on_pair, halt_pair}
 use Rattle.blocks.proofs.Starts.{left_step, none_left}
 

@@ -1,6 +1,5 @@
 -- Axes rise in a block, so its records in their order are those of axes 1, 2 and 3.
-use Rattle.std.proofs.Common.{◌≡◌, ℕ, ◌<◌, ◌≤◌, Bool, true, false, cond, ◌&&◌, eqb, ltb, leb, ◌⊎◌, List, [], ◌∷◌, ◌++◌, Some, None, Ok, Err, Option, sym, refl, ap, ◌∙◌, subst, inl, inr, append-nil, arith}
-use Rattle.std.proofs.lemmas.Bool.Decides.{nat_tests}
+use Rattle.std.proofs.Common.{◌≡◌, ℕ, ◌<◌, ◌≤◌, false, cond, ◌&&◌, eqb, ltb, leb, ◌⊎◌, List, [], ◌∷◌, ◌++◌, Some, None, Ok, Option, sym, refl, ap, ◌∙◌, subst, inl, inr, append-nil, arith}
 use Rattle.std.proofs.lemmas.Bool.{ne_eqb, and_parts, ltb-true, leb-true}
 use Rattle.std.specs.List.{flat_map}
 use Rattle.words.specs.declared.fault.AxisId.{AxisId}
@@ -10,8 +9,8 @@ use Rattle.blocks.specs.declared.kinds.Kind.{Kind}
 use Rattle.blocks.specs.declared.records.Starts.{Starts}
 use Rattle.blocks.specs.Directory.{word_at, record_length, axes_from, axis_of, start_of, starts, starts_by_axis, count_questions, pair_questions, axis_questions, start_questions, directory_questions}
 use Rattle.blocks.specs.Questions.{Asked, ask, refusal, answer}
-use Rattle.blocks.specs.Records.{in_turn, at_start, by_axis, records_from}
-use Rattle.blocks.proofs.Questions.{ok_through, passed, passed_value, passed_tail}
+use Rattle.blocks.specs.Records.{in_turn, at_start, by_axis}
+use Rattle.blocks.proofs.Questions.{ok_through, passed_value, passed_tail}
 
 -- no axis up to the one before is found in the records that are left
 absent : {X : Type 0} (ws : List ℕ) (above n : ℕ) (sts : List ℕ) (a v : X) → Ok v ≡ answer (axes_from ws above sts) a → n ≤ above → start_of ws n sts ≡ None

@@ -1,5 +1,5 @@
 -- Laws of answers: one list of questions behind another.
-use Rattle.std.proofs.Common.{◌≡◌, Bool, true, false, cond, List, [], ◌∷◌, ◌++◌, Some, None, Ok, Err, Option, Result, sym, refl, ap, ◌∙◌, arith}
+use Rattle.std.proofs.Common.{◌≡◌, Bool, true, false, cond, List, [], ◌∷◌, ◌++◌, Some, Ok, Err, Option, Result, sym, refl, ap, ◌∙◌}
 use Rattle.words.specs.declared.fault.Fault.{Fault}
 use Rattle.blocks.specs.Questions.{Asked, refusal, first_no, answer, else_ask, by_first_no}
 

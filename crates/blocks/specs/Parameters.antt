@@ -1,5 +1,5 @@
 -- Parameter blocks. A record is the axis, four positions and eight numbers.
-use Rattle.std.specs.Prelude.{ℕ, ◌+◌, Bool, ◌&&◌, List, [], ◌∷◌, ◌++◌, ℤ, pos, neg_ℤ, Some, None, Option, int_le, nat_le, slice_index, slice_index_or}
+use Rattle.std.specs.Prelude.{ℕ, Bool, ◌&&◌, List, [], ◌∷◌, ◌++◌, ℤ, pos, neg_ℤ, Some, None, Option, int_le, nat_le, slice_index, slice_index_or}
 use Rattle.words.specs.declared.fault.AxisId.{AxisId}
 use Rattle.words.specs.declared.fault.AxisId.TheVariants.{One, Two, Three}
 use Rattle.words.specs.declared.fault.Question.TheVariants.{Range}

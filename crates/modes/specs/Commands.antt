@@ -1,5 +1,5 @@
 -- What a command does to the state of an axis. Whether it is allowed is asked before.
-use Rattle.std.specs.Prelude.{ℕ, ◌+◌, Bool, false, ℤ, pos, ◌-ℤ◌, Some, None, Option}
+use Rattle.std.specs.Prelude.{ℕ, ◌+◌, false, ℤ, pos, ◌-ℤ◌, Some, None, Option}
 use Rattle.modes.specs.declared.commands.Command.{Command}
 use Rattle.modes.specs.declared.commands.Command.TheVariants.{Begin, Start, SlideStop, SearchHome, JogForward, JogReverse, Reset, Override}
 use Rattle.moves.specs.declared.moves.Moveset.{Moveset}

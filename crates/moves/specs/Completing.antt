@@ -1,5 +1,5 @@
 -- Completing a move, and what comes after it.
-use Rattle.std.specs.Prelude.{ℕ, ◌+◌, Bool, false, cond, ℤ, Some, None, Option}
+use Rattle.std.specs.Prelude.{◌+◌, Bool, false, cond, ℤ, Some, None, Option}
 use Rattle.moves.specs.declared.moves.Move.{Move}
 use Rattle.moves.specs.declared.state.Mode.TheVariants.{Rest, Waiting}
 use Rattle.moves.specs.declared.state.State.{State}

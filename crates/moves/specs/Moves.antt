@@ -1,5 +1,5 @@
 -- The moves of a moveset.
-use Rattle.std.specs.Prelude.{ℕ, Bool, false, cond, ◌&&◌, pos, Some, None, Option, nat_lt, slice_index_or}
+use Rattle.std.specs.Prelude.{ℕ, false, cond, ◌&&◌, pos, Some, None, Option, nat_lt, slice_index_or}
 use Rattle.words.specs.declared.position.Target.TheVariants.{Absolute}
 use Rattle.moves.specs.declared.moves.Action.TheVariants.{Travel}
 use Rattle.moves.specs.declared.moves.Move.{Move}

@@ -1,5 +1,5 @@
 -- The parts of an axis's state that the rules change, each by a function of its own.
-use Rattle.std.specs.Prelude.{ℕ, ◌^◌, ◌<◌, Bool, true, false, cond, ◌||◌, ℤ, pos, ◌+ℤ◌, ◌-ℤ◌, neg_ℤ, ◌≤ℤ◌, Some, None, Option, int_lt}
+use Rattle.std.specs.Prelude.{ℕ, ◌^◌, ◌<◌, Bool, false, ◌||◌, ℤ, pos, ◌-ℤ◌, neg_ℤ, ◌≤ℤ◌, Some, None, Option, int_lt}
 use Rattle.moves.specs.declared.parameters.Parameters.{Parameters}
 use Rattle.moves.specs.declared.state.Coordinates.{Coordinates}
 use Rattle.moves.specs.declared.state.Direction.{Direction}

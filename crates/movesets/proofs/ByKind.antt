@@ -1,12 +1,12 @@
 -- Which questions are put to a move, by the bits of its control word.
-use Rattle.std.proofs.Common.{◌≡◌, ℕ, ◌+◌, Bool, true, false, cond, not, ◌&&◌, List, [], Some, None, Ok, Option, Result, sym, refl, ap, ◌∙◌}
+use Rattle.std.proofs.Common.{◌≡◌, ℕ, ◌+◌, Bool, true, false, cond, not, ◌&&◌, List, [], Some, None, Ok, Option, Result, refl, ap, ◌∙◌}
 use Rattle.words.specs.Words.{on, four_digits}
 use Rattle.words.specs.declared.fault.AxisId.{AxisId}
 use Rattle.words.specs.declared.fault.Fault.{Fault}
 use Rattle.words.specs.declared.word.Bit.TheVariants.{B10, B11, B15}
 use Rattle.moves.specs.declared.moves.Action.{Action}
 use Rattle.blocks.specs.Directory.{word_at}
-use Rattle.blocks.specs.Questions.{Asked, answer}
+use Rattle.blocks.specs.Questions.{answer}
 use Rattle.movesets.specs.Actions.{feedrate_questions, local_questions, local_feedrate, travel_questions, travel_action, preset_questions, preset_action, dwell_questions, dwell_action, action_questions, action_of}
 
 module _ (ws : List ℕ) (a : Option AxisId) (at : ℕ) where

@@ -4,7 +4,7 @@ use Rattle.words.specs.Readings.{marked}
 use Rattle.words.specs.Words.{on, four_decimal, four_digits, seven_digits, position_start, position_value, target_start, dwell_start}
 use Rattle.words.specs.declared.fault.AxisId.{AxisId}
 use Rattle.words.specs.declared.fault.Question.TheVariants.{Digits, Range}
-use Rattle.words.specs.declared.word.Bit.TheVariants.{B10, B11, B15}
+use Rattle.words.specs.declared.word.Bit.TheVariants.{B10, B15}
 use Rattle.moves.specs.declared.moves.Action.{Action}
 use Rattle.moves.specs.declared.moves.Action.TheVariants as the
 use Rattle.blocks.specs.Bounds.{rate_max}

@@ -1,5 +1,5 @@
 -- The axis that the program winds with.
-use Rattle.std.specs.Prelude.{ℕ, Bool, true, false, replicate, ℤ, pos, neg_ℤ, Some, None, Option, slice_set}
+use Rattle.std.specs.Prelude.{ℕ, Bool, true, false, replicate, pos, neg_ℤ, Some, None, Option, slice_set}
 use Rattle.words.specs.declared.position.Target.{Target}
 use Rattle.words.specs.declared.position.Target.TheVariants.{Absolute, Incremental}
 use Rattle.moves.specs.declared.moves.Action.{Action}

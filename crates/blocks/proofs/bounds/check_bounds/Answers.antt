@@ -1,4 +1,4 @@
-use Rattle.std.proofs.Common.{◌≡◌, ◌+◌, Some, sym, ◌∙◌, arith}
+use Rattle.std.proofs.Common.{◌+◌, Some, ◌∙◌, arith}
 use Rattle.std.proofs.lemmas.Bool.Decides.{nat_tests}
 use Rattle.blocks.proofs.Ranges.{bounds_step, no_bounds}
 use Rattle.blocks.proofs.bounds.check_bounds.Goals as goal

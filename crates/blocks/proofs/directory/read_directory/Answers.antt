@@ -1,8 +1,7 @@
 use Rattle.std.proofs.Common.{sym, ap, ◌∙◌, rules}
 use Rattle.blocks.specs.Questions.{answer}
 use Rattle.blocks.specs.Directory.{count_questions, start_questions, starts_by_axis, record_length}
-use Rattle.blocks.proofs.Questions.{passed, stopped}
-use Rattle.blocks.proofs.Starts.{record_length_le, record_length_pos}
+use Rattle.blocks.proofs.Questions.{passed}
 use Rattle.blocks.proofs.directory.read_directory.Goals as goal
 
 pub returns : goal.returns

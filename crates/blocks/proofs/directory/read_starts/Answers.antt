@@ -1,4 +1,4 @@
-use Rattle.std.proofs.Common.{◌≡◌, ◌++◌, Ok, Err, sym, ap, ◌∙◌, rules}
+use Rattle.std.proofs.Common.{◌≡◌, Ok, Err, sym, ap, ◌∙◌, rules}
 use Rattle.blocks.specs.Directory.{pair_questions, axis_questions, starts_by_axis}
 use Rattle.blocks.proofs.Questions.{passed, stopped, passed_all, stopped_all}
 use Rattle.std.proofs.lemmas.Result.{err_from_is_err_and}

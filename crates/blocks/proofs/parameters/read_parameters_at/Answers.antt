@@ -1,4 +1,4 @@
-use Rattle.std.proofs.Common.{◌≡◌, Some, Ok, Err, sym, ap, ◌∙◌, rules}
+use Rattle.std.proofs.Common.{Some, Ok, Err, sym, ap, ◌∙◌}
 use Rattle.std.proofs.lemmas.Result.{err_from_is_err_and}
 use Rattle.blocks.specs.Numbers.{number_digits}
 use Rattle.blocks.specs.Parameters.{parameters_written, parameter_digits, assembled}

@@ -1,4 +1,4 @@
-use Rattle.std.proofs.Common.{◌≡◌, ◌+◌, ◌-◌, ◌*◌, ◌≤◌, length, replicate, Some}
+use Rattle.std.proofs.Common.{◌≡◌, ◌+◌, ◌-◌, ◌*◌, ◌≤◌, replicate, Some}
 use Rattle.moves.specs.Moves.{no_move}
 use Rattle.blocks.specs.Numbers.{filled}
 use Rattle.blocks.specs.Questions.{answer}

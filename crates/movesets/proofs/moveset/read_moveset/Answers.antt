@@ -1,4 +1,4 @@
-use Rattle.std.proofs.Common.{◌≡◌, List, replicate, Some, Ok, Err, sym, ap, ◌∙◌}
+use Rattle.std.proofs.Common.{replicate, Some, Ok, Err, sym, ap, ◌∙◌}
 use Rattle.std.proofs.lemmas.Result.{err_from_is_err_and}
 use Rattle.moves.specs.Moves.{no_move}
 use Rattle.blocks.specs.Numbers.{filled}

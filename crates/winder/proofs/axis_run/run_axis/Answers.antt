@@ -1,4 +1,4 @@
-use Rattle.std.proofs.Common.{◌≡◌, sym, ap, ◌∙◌, rules}
+use Rattle.std.proofs.Common.{sym, ap, ◌∙◌, rules}
 use Rattle.winder.specs.Orders.{is_over}
 use Rattle.winder.proofs.Rounds.{start_of_run, start_not_over, goes_on, told_of}
 use Rattle.winder.proofs.axis_run.run_axis.Goals as goal
