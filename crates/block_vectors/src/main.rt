@@ -6,7 +6,7 @@
 
 #![tactic(auto)]
 
-mod movesets;
+mod moveset_lines;
 mod records;
 mod table;
 mod walk;
@@ -55,21 +55,21 @@ fn print_parameters(rt: &impl Print) -> io::Result<()> {
 }
 
 fn print_movesets(rt: &impl Print) -> io::Result<()> {
-    movesets::print_movesets(rt, &table::MOVESETS_1)?;
-    movesets::print_movesets(rt, &table::MOVESETS_2)?;
-    movesets::print_movesets(rt, &table::MOVESETS_3)?;
-    movesets::print_movesets(rt, &table::MOVESETS_4)?;
-    movesets::print_movesets(rt, &table::MOVESETS_5)?;
-    movesets::print_movesets(rt, &table::MOVESETS_6)?;
-    movesets::print_movesets(rt, &table::MOVESETS_7)?;
-    movesets::print_movesets(rt, &table::MOVESETS_8)?;
-    movesets::print_movesets(rt, &table::MOVESETS_9)?;
-    movesets::print_movesets(rt, &table::MOVESETS_10)?;
-    movesets::print_movesets(rt, &table::MOVESETS_11)?;
-    movesets::print_movesets(rt, &table::MOVESETS_12)?;
-    movesets::print_movesets(rt, &table::MOVESETS_13)?;
-    movesets::print_movesets(rt, &table::MOVESETS_14)?;
-    movesets::print_movesets(rt, &table::MOVESETS_15)?;
-    movesets::print_movesets(rt, &table::MOVESETS_16)?;
-    movesets::print_movesets(rt, &table::MOVESETS_17)
+    moveset_lines::print_movesets(rt, &table::MOVESETS_1)?;
+    moveset_lines::print_movesets(rt, &table::MOVESETS_2)?;
+    moveset_lines::print_movesets(rt, &table::MOVESETS_3)?;
+    moveset_lines::print_movesets(rt, &table::MOVESETS_4)?;
+    moveset_lines::print_movesets(rt, &table::MOVESETS_5)?;
+    moveset_lines::print_movesets(rt, &table::MOVESETS_6)?;
+    moveset_lines::print_movesets(rt, &table::MOVESETS_7)?;
+    moveset_lines::print_movesets(rt, &table::MOVESETS_8)?;
+    moveset_lines::print_movesets(rt, &table::MOVESETS_9)?;
+    moveset_lines::print_movesets(rt, &table::MOVESETS_10)?;
+    moveset_lines::print_movesets(rt, &table::MOVESETS_11)?;
+    moveset_lines::print_movesets(rt, &table::MOVESETS_12)?;
+    moveset_lines::print_movesets(rt, &table::MOVESETS_13)?;
+    moveset_lines::print_movesets(rt, &table::MOVESETS_14)?;
+    moveset_lines::print_movesets(rt, &table::MOVESETS_15)?;
+    moveset_lines::print_movesets(rt, &table::MOVESETS_16)?;
+    moveset_lines::print_movesets(rt, &table::MOVESETS_17)
 }

@@ -15,7 +15,7 @@ impl Drive for Analog {
 
     ghost obeys = { AnalogObeys };
 
-    ghost lawful = { first_of (Prim.search rules, Prim.grind (arith, Self.row.coded.inj)) };
+    ghost lawful = { Prim.search rules };
 
     fn step(&mut self, counts: i32) -> Result<(), Refusal>
         ensures answer { result ≡ step_answer (analog_values self.old) counts }
