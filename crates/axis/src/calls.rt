@@ -1,10 +1,11 @@
-// The calls on an axis over any drive. Each is what the reference axis does, on the state and on the drive's four values.
-ghost use Rattle.std.specs.Prelude.{◌≡◌, [], ◌∷◌, Some, None};
-ghost use Rattle.drive.specs.Orders.{Step, Told};
+// The calls on an axis over any drive. Each is what the reference axis does, on the state and on the drive's four values, and tells
+// the drive what the response to it lists.
+ghost use Rattle.std.specs.Prelude.{◌≡◌, [], ◌∷◌};
+ghost use Rattle.drive.specs.Orders.{Told};
 ghost use Rattle.axis.specs.Calls.{Follows, reference};
 ghost use Rattle.axis.specs.Responses.{Tick, Commanded, ParametersSet, MovesetSet, PresetHeld, PresetLoaded, response, taken_down_response, moved_response, naming, step_of};
 ghost use Rattle.modes.specs.Commands.{with_moveset};
-ghost use Rattle.axis.specs.Reference.{over, is_up, alarm, felt, taken_down, seen, after_naming, after_motion, moved, tick_up, tick, commanded, accepted, load};
+ghost use Rattle.axis.specs.Reference.{over, is_up, alarm, taken_down, seen, after_naming, after_motion, moved, tick, commanded, accepted, load};
 ghost use Rattle.moves.specs.State.{with_held, new_state};
 
 use crate::over_drive::Axis;

@@ -1,5 +1,5 @@
--- What a drive means: four values, and what each call makes of them. The trait says no more of a drive than this, so the four
--- values with these functions are the plainest drive of all. Numbers are in counts, the unit of steps and of encoders.
+-- What a drive means: four values, and what each call makes of them. The four values with these functions are the plainest drive
+-- of all. Numbers are in counts, the unit of steps and of encoders.
 use Rattle.std.specs.Prelude.{◌≡◌, Bool, true, false, cond, ◌&&◌, ◌||◌, ℤ, pos, ◌+ℤ◌, ◌-ℤ◌, neg_ℤ, ◌≤ℤ◌, is_ok, Ok, Err, Result, int_lt}
 use Rattle.std.specs.Int.{int_min, int_max}
 use Rattle.drive.specs.declared.refusal.Refusal.{Refusal}

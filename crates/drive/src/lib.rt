@@ -22,7 +22,7 @@ pub use refusal::Refusal;
 pub use reversed::Reversed;
 
 pub trait Drive {
-    // The four values that this drive stands for. Contracts know a drive by these alone.
+    // The four values that this drive stands for. What a call does to them, and what it answers, is said by these alone.
     ghost meaning: { Self → Values };
 
     // `obeys d o e` says that d, told the order o, became e: the four values, and whatever else a drive of this kind keeps.

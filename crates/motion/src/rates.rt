@@ -25,7 +25,7 @@ impl Rates {
     }
 
     // The speed one tick later if the axis brakes, 0 at the least. The contract also carries the laws of planning,
-    // of which `slowing-fits` says that from a planned speed this one fits what is left of the room.
+    // of which `slowing_fits` says that from a planned speed this one fits what is left of the room.
     pub fn slowed(self, speed: u16) -> u16
         ensures value { result ≡ speed - self.deceleration }
         ensures laws { PlanningLaws }

@@ -9,7 +9,7 @@ use Rattle.moves.specs.declared.moves.Moveset.{Moveset}
 abbrev pub moves_max : ℕ
 moves_max = 21
 
--- what `get_or` would give past the end of a list of moves; it is never read
+-- what is read past the end of a list of moves; it is never read
 abbrev pub no_move : Move
 no_move =
     record { action = Travel (record { target = Absolute (pos 0); with_offset = false; feedrate = None }); halt = false; continuous = false }

@@ -1,6 +1,5 @@
 -- Setting up a move: where it goes, and what notes it may make instead.
-use Rattle.std.specs.Prelude.{ℕ, ◌+◌, ◌*◌, ◌/◌, Bool, cond, not, ◌&&◌, ◌||◌, ℤ, pos, ◌+ℤ◌, ◌-ℤ◌, nat_abs, Some, None, Ok, Err, Result, ◌==◌}
-use Rattle.std.specs.Int.Signed.{lt_z}
+use Rattle.std.specs.Prelude.{ℕ, ◌+◌, ◌*◌, ◌/◌, Bool, cond, not, ◌&&◌, ◌||◌, ℤ, pos, ◌+ℤ◌, ◌-ℤ◌, unsigned_abs, Some, None, Ok, Err, Result, ◌==◌, int_lt}
 use Rattle.words.specs.declared.position.Target.{Target}
 use Rattle.words.specs.declared.position.Target.TheVariants.{Absolute, Incremental}
 use Rattle.moves.specs.declared.moves.Action.{Action}
@@ -28,7 +27,7 @@ accumulated p accumulator with_offset = cond with_offset (accumulator +ℤ p.off
 
 -- z is outside the travel limits
 abbrev pub outside : Parameters → ℤ → Bool
-outside p z = lt_z z p.low || lt_z p.high z
+outside p z = int_lt z p.low || int_lt p.high z
 
 -- An accumulator beyond what can be shown is noted before an endpoint outside the limits.
 abbrev pub checked : Parameters → ℤ → ℤ → Result Destination Note
@@ -43,12 +42,12 @@ destination p c from t =
 -- Toward an endpoint: at it already, the axis settles; else it moves there.
 abbrev pub heading : ℤ → ℤ → Motion → Motion
 heading place endpoint m =
-    cond (nat_abs (endpoint -ℤ place) == 0)
+    cond (unsigned_abs (endpoint -ℤ place) == 0)
     (record { mode = Settling endpoint; speed = m.speed; direction = m.direction })
     (record {
-      mode = Moving (record { endpoint = endpoint; left = nat_abs (endpoint -ℤ place); length = nat_abs (endpoint -ℤ place) });
+      mode = Moving (record { endpoint = endpoint; left = unsigned_abs (endpoint -ℤ place); length = unsigned_abs (endpoint -ℤ place) });
       speed = m.speed;
-      direction = cond (lt_z endpoint place) Minus Plus;
+      direction = cond (int_lt endpoint place) Minus Plus;
     })
 
 -- move i is set up to go to a destination

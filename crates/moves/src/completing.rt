@@ -1,6 +1,6 @@
 // Completing a move, and what comes after it.
 ghost use Rattle.std.specs.Prelude.{◌≡◌, ◌^◌};
-ghost use Rattle.moves.specs.Completing.{halts, go_on, arrive, complete};
+ghost use Rattle.moves.specs.Completing.{halts, go_on, complete};
 ghost use Rattle.moves.specs.State.{Ranges, CoordinateRanges, Within, position_of};
 
 use crate::moves::Move;

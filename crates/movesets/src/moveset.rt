@@ -1,5 +1,5 @@
 // Movesets: a block for one axis, up to 21 moves one behind the other.
-ghost use Rattle.std.specs.Prelude.{◌≡◌, ◌+◌, ◌^◌, ◌<◌, ◌≤◌, length, replicate, IfOk, Some};
+ghost use Rattle.std.specs.Prelude.{◌≡◌, ◌^◌, ◌<◌, ◌≤◌, replicate, IfOk, Some};
 ghost use Rattle.words.specs.declared.fault.Question.TheVariants.{Length};
 ghost use Rattle.moves.specs.Moves.{no_move};
 ghost use Rattle.blocks.specs.Numbers.{filled};

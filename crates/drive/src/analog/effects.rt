@@ -4,7 +4,7 @@ ghost use Rattle.drive.specs.Analog.{AnalogObeys, analog_values, output_state};
 ghost use Rattle.drive.specs.Orders.{Step, Feel, Name, Wake, Sleep};
 ghost use Rattle.drive.specs.Output.{output_after_step, output_after_feel, output_after_name, latest_cleared};
 ghost use Rattle.drive.specs.Values.{step_answer, after_step, after_feel, name_answer, after_name, after_wake, after_sleep};
-ghost use Rattle.std.proofs.Common.{rules, arith};
+ghost use Rattle.std.proofs.Common.{rules};
 
 use super::Analog;
 use crate::limits::{REACH_CEILING, held_difference, held_sum, place_after, within_reach};
