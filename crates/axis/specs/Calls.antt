@@ -10,8 +10,8 @@ use Rattle.axis.specs.Responses.{Response}
 abbrev pub reference : {D : Type 0} → (D → Values) → Axis D → Reference
 reference meaning a = over a.control.state (meaning a.drive)
 
--- A response took the axis from before to after: its state is the response's, its drive was told the response's orders, one after
--- the other, and nothing else, and they had their effect on the four values.
+-- A response took the axis from before to after: its state is the response's, and the response's orders, one after the other, take
+-- its drive from what it was to what it is, with their effect on the four values.
 pub record Follows {D : Type 0} (meaning : D → Values) (obeys : D → Order → D → Type 0) (before after : Axis D) (p : Response) : Type 0 where
   pub state : after.control.state ≡ p.state
   pub values : meaning after.drive ≡ after_orders p.orders (meaning before.drive)

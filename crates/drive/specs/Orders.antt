@@ -26,8 +26,8 @@ abbrev pub after_orders : List Order → Values → Values
 after_orders [] v = v
 after_orders (o ∷ os) v = after_orders os (after_order o v)
 
--- The drive d was told these orders, one after the other, and nothing else, and became e. `obeys d o m` says that d, told o,
--- became m. Of a drive of which nothing more is known only the calls themselves can show that.
+-- These orders, one after the other, take the drive d to e: `obeys d o m` says that the order o takes d to m. Where nothing more is
+-- known of `obeys`, only the calls themselves can show that, each made once and in this order.
 abbrev pub Told : {D : Type 0} → (D → Order → D → Type 0) → D → List Order → D → Type 0
 Told obeys d [] e = e ≡ d
 Told {D = D} obeys d (o ∷ os) e = (m : D) × obeys d o m × Told obeys m os e

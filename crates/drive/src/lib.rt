@@ -25,8 +25,9 @@ pub trait Drive {
     // The four values that this drive stands for. What a call does to them, and what it answers, is said by these alone.
     ghost meaning: { Self → Values };
 
-    // `obeys d o e` says that d, told the order o, became e: the four values, and whatever else a drive of this kind keeps.
-    // Generic code knows nothing more of it, so that it can show that a drive was told an order only by making that very call.
+    // `obeys d o e`: the order o takes a drive of this kind from d to e. Each kind gives its own relation and the trait asks nothing
+    // of it, so it says as much of what a drive keeps as that kind makes it say. Generic code knows nothing of it: only by making
+    // that very call can it show that a drive went through an order.
     ghost obeys: { Self → Order → Self → Type 0 };
 
     // Moves by `counts`, either way. It is refused if the drive sleeps, else if it would leave the reach, and then changes
