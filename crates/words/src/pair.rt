@@ -13,7 +13,7 @@ pub struct WordPair {
 
 impl WordPair {
     // The number that the last three digits of the first word and the four of the second spell.
-    pub(crate) fn seven_digits(self) -> Result<u32, Fault>
+    pub fn seven_digits(self) -> Result<u32, Fault>
         ensures { result ≡ seven_digit_reading self.first self.second }
     {
         let high = u32::from(self.first.three_digits()?);
