@@ -3,7 +3,7 @@ ghost use Rattle.std.specs.Prelude.{◌≡◌, ◌+◌, ◌≤◌, length, repli
 ghost use Rattle.blocks.specs.Numbers.{number_digits, numbers_from, filled};
 ghost use Rattle.blocks.specs.Questions.{answer};
 
-use words::{AxisId, Fault, Word, read_number};
+use words::{AxisId, Fault, Word};
 
 // The N number words of the record at `start` whose indices in it run on from `first`.
 pub(crate) fn read_numbers<const N: usize>(
@@ -18,11 +18,12 @@ pub(crate) fn read_numbers<const N: usize>(
     let mut numbers = [0; N];
     for i in 0..N {
         let index = start + (first + i);
-        numbers[i] = read_number(Word {
+        numbers[i] = Word {
             bits: words[index],
             axis,
             index,
-        })?;
+        }
+        .four_digits()?;
     }
     Ok(numbers)
 }

@@ -4,7 +4,7 @@ ghost use Rattle.blocks.specs.Numbers.{filled};
 ghost use Rattle.blocks.specs.Positions.{position_digits, positions_from};
 ghost use Rattle.blocks.specs.Questions.{answer};
 
-use words::{AxisId, Fault, Word, read_position};
+use words::{AxisId, Fault, Word, WordPair};
 
 // The N positions of the record at `start` whose words run on from the index `first` in it.
 pub(crate) fn read_positions<const N: usize>(
@@ -19,18 +19,19 @@ pub(crate) fn read_positions<const N: usize>(
     let mut positions = [0; N];
     for i in 0..N {
         let index = start + (first + 2 * i);
-        positions[i] = read_position(
-            Word {
+        positions[i] = WordPair {
+            first: Word {
                 bits: words[index],
                 axis,
                 index,
             },
-            Word {
+            second: Word {
                 bits: words[index + 1],
                 axis,
                 index: index + 1,
             },
-        )?;
+        }
+        .read_position()?;
     }
     Ok(positions)
 }

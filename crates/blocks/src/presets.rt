@@ -8,7 +8,7 @@ ghost use Rattle.blocks.specs.Records.{at_start, by_axis, record_from, records_f
 use crate::directory::read_directory;
 use crate::kinds::Kind;
 use crate::records::{Record, Records, Starts};
-use words::{AxisId, Fault, Word, read_position};
+use words::{AxisId, Fault, Word, WordPair};
 
 // The presets that a block has for its axes, or its first no.
 pub fn read_presets(words: &[u16]) -> Result<Records<i32>, Fault>
@@ -41,17 +41,18 @@ fn read_record(
     let Some(word) = start else {
         return Ok(None);
     };
-    let value = read_position(
-        Word {
+    let value = WordPair {
+        first: Word {
             bits: words[word + 1],
             axis,
             index: word + 1,
         },
-        Word {
+        second: Word {
             bits: words[word + 2],
             axis,
             index: word + 2,
         },
-    )?;
+    }
+    .read_position()?;
     Ok(Some(Record { word, value }))
 }

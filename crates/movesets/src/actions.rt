@@ -9,9 +9,7 @@ ghost use Rattle.movesets.specs.Control.{move_length};
 
 use blocks::RATE_MAX;
 use moves::{Action, Travel};
-use words::{
-    AxisId, Bit, Fault, Question, Word, read_dwell, read_number, read_position, read_target,
-};
+use words::{AxisId, Bit, Fault, Question, Word, WordPair};
 
 // The shortest and the longest dwell, in milliseconds.
 const DWELL_MIN: u32 = 20;
@@ -47,7 +45,7 @@ fn read_feedrate(words: &[u16], axis: AxisId, at: usize) -> Result<u16, Fault>
     ensures { result ≡ answer (feedrate_questions words.now (Some axis) at) (four_digits (word_at words.now (at + 3))) }
 {
     let word = word(words, axis, at + 3);
-    let feedrate = read_number(word)?;
+    let feedrate = word.four_digits()?;
     if feedrate < 1 || feedrate > RATE_MAX {
         return Err(out_of_range(word));
     }
@@ -59,7 +57,9 @@ fn read_preset_action(words: &[u16], axis: AxisId, at: usize) -> Result<Action, 
     requires { at + 3 ≤ length words.now }
     ensures { result ≡ answer (preset_questions words.now (Some axis) at) (preset_action words.now at) }
 {
-    let counts = read_position(word(words, axis, at + 1), word(words, axis, at + 2))?;
+    let first = word(words, axis, at + 1);
+    let second = word(words, axis, at + 2);
+    let counts = WordPair { first, second }.read_position()?;
     Ok(Action::Preset(counts))
 }
 
@@ -69,7 +69,8 @@ fn read_dwell_action(words: &[u16], axis: AxisId, at: usize) -> Result<Action, F
     ensures { result ≡ answer (dwell_questions words.now (Some axis) at) (dwell_action words.now at) }
 {
     let first = word(words, axis, at + 1);
-    let time = read_dwell(first, word(words, axis, at + 2))?;
+    let second = word(words, axis, at + 2);
+    let time = WordPair { first, second }.read_dwell()?;
     if time < DWELL_MIN || time > DWELL_MAX {
         return Err(out_of_range(first));
     }
@@ -93,7 +94,9 @@ fn read_travel_action(words: &[u16], axis: AxisId, at: usize) -> Result<Action, 
     requires { at + move_length (word_at words.now at) ≤ length words.now }
     ensures { result ≡ answer (travel_questions words.now (Some axis) at) (travel_action words.now at) }
 {
-    let target = read_target(word(words, axis, at + 1), word(words, axis, at + 2))?;
+    let first = word(words, axis, at + 1);
+    let second = word(words, axis, at + 2);
+    let target = WordPair { first, second }.read_target()?;
     let feedrate = read_local_feedrate(words, axis, at)?;
     let with_offset = word(words, axis, at).has(Bit::B10);
     Ok(Action::Travel(Travel {

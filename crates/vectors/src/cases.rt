@@ -2,7 +2,7 @@
 ghost use Rattle.std.specs.Prelude.{◌≡◌};
 
 use std::io;
-use words::{AxisId, Fault, Word};
+use words::{AxisId, Fault, Word, WordPair};
 
 // Two words of a block, one after the other.
 #[derive(Clone, Copy)]
@@ -17,23 +17,17 @@ pub struct Place {
 }
 
 impl Place {
-    pub fn first_word(self, pair: Pair) -> Word
-        ensures { result ≡ record { bits = pair.0; axis = self.axis; index = self.first } }
+    pub fn words(self, pair: Pair) -> WordPair
+        ensures { result ≡ record { first = record { bits = pair.0; axis = self.axis; index = self.first }; second = record { bits = pair.1; axis = self.axis; index = self.second } } }
     {
-        Word {
-            bits: pair.0,
+        let word = |bits, index| Word {
+            bits,
             axis: self.axis,
-            index: self.first,
-        }
-    }
-
-    pub fn second_word(self, pair: Pair) -> Word
-        ensures { result ≡ record { bits = pair.1; axis = self.axis; index = self.second } }
-    {
-        Word {
-            bits: pair.1,
-            axis: self.axis,
-            index: self.second,
+            index,
+        };
+        WordPair {
+            first: word(pair.0, self.first),
+            second: word(pair.1, self.second),
         }
     }
 }

@@ -1,7 +1,7 @@
 // Number words, read as word 9 of a record of axis 1.
 use crate::cases::print_fault;
 use std::io;
-use words::{AxisId, Word, read_number};
+use words::{AxisId, Word};
 
 const NUMBERS: [u16; 22] = [
     // every place, and every digit
@@ -18,7 +18,7 @@ pub fn print_numbers(rt: &impl Print) -> io::Result<()> {
             axis: AxisId::One,
             index: 9,
         };
-        match read_number(word) {
+        match word.four_digits() {
             Ok(value) => println!(rt; "= {value}")?,
             Err(fault) => print_fault(rt, fault)?,
         }

@@ -1,7 +1,7 @@
 // The positions of moves, which may be incremental, read as words 2 and 3 of a moveset of axis 3.
 use crate::cases::{Pair, Place, print_fault, print_pair};
 use std::io;
-use words::{AxisId, Target, read_target};
+use words::{AxisId, Target};
 
 const PLACE: Place = Place {
     axis: AxisId::Three,
@@ -51,7 +51,7 @@ const TARGETS: [Pair; 32] = [
 pub fn print_targets(rt: &impl Print) -> io::Result<()> {
     for pair in TARGETS {
         print_pair(rt, "target", pair)?;
-        match read_target(PLACE.first_word(pair), PLACE.second_word(pair)) {
+        match PLACE.words(pair).read_target() {
             Ok(Target::Absolute(counts)) => println!(rt; "= {counts}")?,
             Ok(Target::Incremental(counts)) => println!(rt; "= {counts} incremental")?,
             Err(fault) => print_fault(rt, fault)?,

@@ -5,7 +5,7 @@ ghost use Rattle.words.specs.Readings.{position_reading};
 ghost use Rattle.winder.specs.Arguments.{Spelled};
 ghost use Rattle.winder.specs.Runs.{Reachable};
 
-use words::{AxisId, Fault, Word, read_position};
+use words::{AxisId, Fault, Word, WordPair};
 
 // A word of hexadecimal digits alone.
 pub fn hex_word(text: &str) -> Option<u16>
@@ -36,5 +36,5 @@ pub fn position(first: u16, second: u16) -> Result<i32, Fault>
         axis: AxisId::One,
         index: 1,
     };
-    read_position(first, second)
+    WordPair { first, second }.read_position()
 }
