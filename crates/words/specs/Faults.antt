@@ -1,5 +1,7 @@
 -- The numbers of the questions and of the axes.
-use Rattle.std.specs.Prelude.{ℕ, Some, None, Option}
+use Rattle.std.specs.Prelude.{ℕ, List, ◌∷◌, ◌++◌, Some, None, Option}
+use Rattle.std.specs.Fmt.{decimal}
+use Rattle.words.specs.declared.fault.Fault.{Fault}
 use Rattle.words.specs.declared.fault.Question.{Question}
 use Rattle.words.specs.declared.fault.Question.TheVariants as q
 use Rattle.words.specs.declared.axis.AxisId.{AxisId}
@@ -35,3 +37,7 @@ axis_number Three = 3
 abbrev pub named_axis : Option AxisId → ℕ
 named_axis None = 0
 named_axis (Some a) = axis_number a
+
+-- a refusal as it is printed: its three numbers in decimal digits, question, axis and word, a blank between
+abbrev pub refusal_text : Fault → List ℕ
+refusal_text f = decimal (question_number f.question) ++ 32 ∷ decimal (named_axis f.axis) ++ 32 ∷ decimal f.word

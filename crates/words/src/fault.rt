@@ -1,6 +1,6 @@
 // A refusal: the question that got the no, and where.
 ghost use Rattle.std.specs.Prelude.{◌≡◌, Some};
-ghost use Rattle.words.specs.Faults.{question_number, named_axis};
+ghost use Rattle.words.specs.Faults.{question_number, named_axis, refusal_text};
 
 use crate::axis::AxisId;
 use std::fmt;
@@ -83,7 +83,8 @@ impl Fault {
 }
 
 impl fmt::Display for Fault {
-    // The three numbers of a refusal: question, axis and word.
+    ghost output = { λ fault. Some (refusal_text fault) };
+
     fn fmt<W: fmt::Write>(&self, f: &mut fmt::Formatter<W>) -> fmt::Result {
         let question = self.question.number();
         let axis = self.axis_number();
