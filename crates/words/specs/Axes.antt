@@ -4,6 +4,7 @@ use Rattle.words.specs.declared.axis.AxisId.{AxisId}
 use Rattle.words.specs.declared.axis.AxisId.TheVariants.{One, Two, Three}
 use Rattle.words.specs.declared.by_axis.ByAxis.{ByAxis}
 
+-- what an axis has
 abbrev pub of_axis : {T : Type 0} → ByAxis T → AxisId → T
 of_axis all One = all.one
 of_axis all Two = all.two
@@ -21,15 +22,3 @@ InTurn {T} {U} {E} P given answer =
     (a : Result U E) × P One given.one a × Next a (λ one r.
     (b : Result U E) × P Two given.two b × Next b (λ two s.
     (c : Result U E) × P Three given.three c × Next c (λ three t. t ≡ Ok (record { one = one; two = two; three = three })) s) r) answer
-
--- an answer that is an error is passed on, and a value is gone on with
-abbrev pub and_then : {A B E : Type 0} → Result A E → (A → Result B E) → Result B E
-and_then (Err e) rest = Err e
-and_then (Ok x) rest = rest x
-
--- the same of a step that is a function
-abbrev pub in_turn : {T U E : Type 0} → (AxisId → T → Result U E) → ByAxis T → Result (ByAxis U) E
-in_turn f given =
-    and_then (f One given.one) (λ one.
-    and_then (f Two given.two) (λ two.
-    and_then (f Three given.three) (λ three. Ok (record { one = one; two = two; three = three }))))
