@@ -2,7 +2,7 @@
 use Rattle.std.proofs.Common.{◌≡◌, ℕ, ◌+◌, ◌-◌, ◌*◌, ◌<◌, ◌≤◌, cond, List, set, ℤ, Some, Ok, Err, Option, Result, sym, ap, ◌∙◌, add_assoc, arith}
 use Rattle.words.specs.Readings.{position_reading}
 use Rattle.words.specs.Words.{four_decimal, position_start}
-use Rattle.words.specs.declared.fault.AxisId.{AxisId}
+use Rattle.words.specs.declared.axis.AxisId.{AxisId}
 use Rattle.words.specs.declared.fault.Fault.{Fault}
 use Rattle.words.specs.declared.fault.Question.TheVariants.{Digits}
 use Rattle.blocks.specs.Directory.{word_at}

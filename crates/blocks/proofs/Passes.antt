@@ -1,7 +1,7 @@
 -- A pass over the records of a block: axis by axis, and behind its directory.
 use Rattle.std.proofs.Common.{◌≡◌, ℕ, List, ◌++◌, Some, None, Ok, Err, Option, sym, refl, ap, ◌∙◌}
-use Rattle.words.specs.declared.fault.AxisId.{AxisId}
-use Rattle.words.specs.declared.fault.AxisId.TheVariants.{One, Two, Three}
+use Rattle.words.specs.declared.axis.AxisId.{AxisId}
+use Rattle.words.specs.declared.axis.AxisId.TheVariants.{One, Two, Three}
 use Rattle.words.specs.declared.fault.Fault.{Fault}
 use Rattle.blocks.specs.declared.kinds.Kind.{Kind}
 use Rattle.blocks.specs.declared.records.Record.{Record}

@@ -1,6 +1,6 @@
 -- Command blocks. A record is the axis, a code and an argument.
 use Rattle.std.specs.Prelude.{ℕ, ◌+◌, cond, ◌&&◌, List, [], ◌∷◌, ◌++◌, Option, ◌==◌, nat_le}
-use Rattle.words.specs.declared.fault.AxisId.{AxisId}
+use Rattle.words.specs.declared.axis.AxisId.{AxisId}
 use Rattle.words.specs.declared.fault.Question.TheVariants.{Range}
 use Rattle.modes.specs.Commands.{command_code}
 use Rattle.modes.specs.declared.commands.Command.{Command}

@@ -1,8 +1,8 @@
 -- Blocks with a directory: their kinds, where their records lie, and the questions up to the axis words.
 use Rattle.std.specs.Prelude.{ℕ, zero, suc, ◌+◌, ◌*◌, ◌≤◌, cond, ◌&&◌, List, [], ◌∷◌, ◌++◌, length, Some, None, Option, ◌==◌, nat_le, nat_lt, slice_index}
 use Rattle.words.specs.Faults.{axis_number}
-use Rattle.words.specs.declared.fault.AxisId.{AxisId}
-use Rattle.words.specs.declared.fault.AxisId.TheVariants.{One, Two, Three}
+use Rattle.words.specs.declared.axis.AxisId.{AxisId}
+use Rattle.words.specs.declared.axis.AxisId.TheVariants.{One, Two, Three}
 use Rattle.words.specs.declared.fault.Question.TheVariants as q
 use Rattle.blocks.specs.declared.kinds.Kind.{Kind}
 use Rattle.blocks.specs.declared.kinds.Kind.TheVariants.{Parameters, Commands, Presets}

@@ -1,7 +1,7 @@
 -- Parameter blocks. A record is the axis, four positions and eight numbers.
 use Rattle.std.specs.Prelude.{ℕ, Bool, ◌&&◌, List, [], ◌∷◌, ◌++◌, ℤ, pos, neg_ℤ, Some, None, Option, int_le, nat_le, slice_index, slice_index_or}
-use Rattle.words.specs.declared.fault.AxisId.{AxisId}
-use Rattle.words.specs.declared.fault.AxisId.TheVariants.{One, Two, Three}
+use Rattle.words.specs.declared.axis.AxisId.{AxisId}
+use Rattle.words.specs.declared.axis.AxisId.TheVariants.{One, Two, Three}
 use Rattle.words.specs.declared.fault.Question.TheVariants.{Range}
 use Rattle.moves.specs.declared.parameters.Parameters.{Parameters}
 use Rattle.blocks.specs.declared.bounds.Bounded.{Bounded}

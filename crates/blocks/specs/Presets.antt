@@ -1,7 +1,7 @@
 -- Preset blocks. A record is the axis and a position without an incremental mark.
 use Rattle.std.specs.Prelude.{ℕ, ◌+◌, List, [], ◌∷◌, ◌++◌, ℤ, Option}
 use Rattle.words.specs.Words.{position_start, position_value, four_decimal}
-use Rattle.words.specs.declared.fault.AxisId.{AxisId}
+use Rattle.words.specs.declared.axis.AxisId.{AxisId}
 use Rattle.words.specs.declared.fault.Question.TheVariants.{Digits}
 use Rattle.blocks.specs.declared.kinds.Kind.TheVariants.{Presets}
 use Rattle.blocks.specs.declared.records.Records.{Records}

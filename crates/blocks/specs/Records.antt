@@ -1,8 +1,8 @@
 -- The records of a block: the questions that are put to each, and their values by axis.
 use Rattle.std.specs.Prelude.{ℕ, ◌+◌, ◌^◌, ◌<◌, List, [], ◌++◌, Some, None, Option}
 use Rattle.std.specs.List.{flat_map}
-use Rattle.words.specs.declared.fault.AxisId.{AxisId}
-use Rattle.words.specs.declared.fault.AxisId.TheVariants.{One, Two, Three}
+use Rattle.words.specs.declared.axis.AxisId.{AxisId}
+use Rattle.words.specs.declared.axis.AxisId.TheVariants.{One, Two, Three}
 use Rattle.blocks.specs.declared.records.Record.{Record}
 use Rattle.blocks.specs.declared.records.Records.{Records}
 use Rattle.blocks.specs.declared.records.Starts.{Starts}

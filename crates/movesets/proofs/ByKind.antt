@@ -1,7 +1,7 @@
 -- Which questions are put to a move, by the bits of its control word.
 use Rattle.std.proofs.Common.{◌≡◌, ℕ, ◌+◌, Bool, true, false, cond, not, ◌&&◌, List, [], Some, None, Ok, Option, Result, refl, ap, ◌∙◌}
 use Rattle.words.specs.Words.{on, four_digits}
-use Rattle.words.specs.declared.fault.AxisId.{AxisId}
+use Rattle.words.specs.declared.axis.AxisId.{AxisId}
 use Rattle.words.specs.declared.fault.Fault.{Fault}
 use Rattle.words.specs.declared.word.Bit.TheVariants.{B10, B11, B15}
 use Rattle.moves.specs.declared.moves.Action.{Action}

@@ -1,6 +1,6 @@
 -- The moves of a block, read one after the other.
 use Rattle.std.proofs.Common.{◌≡◌, ℕ, ◌+◌, ◌-◌, ◌<◌, ◌≤◌, Bool, true, false, cond, List, ◌++◌, set, Ok, Err, Option, Result, sym, ap, ◌∙◌, arith}
-use Rattle.words.specs.declared.fault.AxisId.{AxisId}
+use Rattle.words.specs.declared.axis.AxisId.{AxisId}
 use Rattle.words.specs.declared.fault.Fault.{Fault}
 use Rattle.moves.specs.declared.moves.Move.{Move}
 use Rattle.blocks.specs.Directory.{word_at}

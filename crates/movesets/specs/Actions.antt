@@ -2,7 +2,7 @@
 use Rattle.std.specs.Prelude.{ℕ, ◌+◌, Bool, cond, ◌&&◌, List, [], ◌∷◌, ◌++◌, Some, None, Option, nat_le}
 use Rattle.words.specs.Readings.{marked}
 use Rattle.words.specs.Words.{on, four_decimal, four_digits, seven_digits, position_start, position_value, target_start, dwell_start}
-use Rattle.words.specs.declared.fault.AxisId.{AxisId}
+use Rattle.words.specs.declared.axis.AxisId.{AxisId}
 use Rattle.words.specs.declared.fault.Question.TheVariants.{Digits, Range}
 use Rattle.words.specs.declared.word.Bit.TheVariants.{B10, B15}
 use Rattle.moves.specs.declared.moves.Action.{Action}

@@ -1,7 +1,7 @@
 -- Movesets: their questions, move by move, and their moves.
 use Rattle.std.specs.Prelude.{ℕ, zero, suc, ◌+◌, ◌-◌, ◌&&◌, List, [], ◌∷◌, ◌++◌, length, replicate, Option, nat_le, nat_lt}
 use Rattle.words.specs.Words.{on}
-use Rattle.words.specs.declared.fault.AxisId.{AxisId}
+use Rattle.words.specs.declared.axis.AxisId.{AxisId}
 use Rattle.words.specs.declared.fault.Question.TheVariants as q
 use Rattle.words.specs.declared.word.Bit.TheVariants.{B16, B17}
 use Rattle.moves.specs.Moves.{moves_max, no_move}

@@ -1,6 +1,6 @@
 // The two words of a position, as they come from the command line.
 ghost use Rattle.std.specs.Prelude.{◌≡◌, IfOk};
-ghost use Rattle.words.specs.declared.fault.AxisId.TheVariants.{One};
+ghost use Rattle.words.specs.declared.axis.AxisId.TheVariants.{One};
 ghost use Rattle.words.specs.Readings.{position_reading};
 ghost use Rattle.winder.specs.Arguments.{Spelled};
 ghost use Rattle.winder.specs.Runs.{Reachable};

@@ -4,7 +4,7 @@ use Rattle.std.proofs.lemmas.Int.{ints}
 use Rattle.std.proofs.lemmas.Bool.Decides.{nat_tests}
 use Rattle.words.specs.declared.word.Bit.TheVariants.{B17}
 use Rattle.words.specs.Words.{on, digit, four_decimal, four_digits, position_start, position_size, position_value}
-use Rattle.words.specs.declared.fault.AxisId.{AxisId}
+use Rattle.words.specs.declared.axis.AxisId.{AxisId}
 use Rattle.words.specs.Readings.{position_reading}
 use Rattle.words.specs.Written.{packed, sign_bit, Reads, Written}
 use Rattle.words.proofs.Packing.{hex, hex_0, hex_1, hex_2, hex_3, hex_places, packed_is, places, bit_14, bit_15, bit_16, bit_17}

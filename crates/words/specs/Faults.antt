@@ -2,8 +2,8 @@
 use Rattle.std.specs.Prelude.{ℕ, Some, None, Option}
 use Rattle.words.specs.declared.fault.Question.{Question}
 use Rattle.words.specs.declared.fault.Question.TheVariants as q
-use Rattle.words.specs.declared.fault.AxisId.{AxisId}
-use Rattle.words.specs.declared.fault.AxisId.TheVariants.{One, Two, Three}
+use Rattle.words.specs.declared.axis.AxisId.{AxisId}
+use Rattle.words.specs.declared.axis.AxisId.TheVariants.{One, Two, Three}
 
 -- the number of a question, as a refusal carries it
 abbrev pub question_number : Question → ℕ

@@ -1,6 +1,6 @@
 -- How a position is written, and that nothing else reads as it.
 use Rattle.std.specs.Prelude.{◌≡◌, ℕ, ◌+◌, ◌*◌, ◌/◌, ◌%◌, ◌^◌, ◌<◌, ◌≤◌, true, ◌⊎◌, ℤ, pos, negsuc, Some, None, Ok, Option, ◌≢◌, unsigned_abs}
-use Rattle.words.specs.declared.fault.AxisId.{AxisId}
+use Rattle.words.specs.declared.axis.AxisId.{AxisId}
 use Rattle.words.specs.declared.position.PositionWords.{PositionWords}
 use Rattle.words.specs.Readings.{position_reading}
 use Rattle.words.specs.Words.{four_decimal, position_start, position_value}

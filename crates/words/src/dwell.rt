@@ -3,13 +3,21 @@ ghost use Rattle.std.specs.Prelude.{◌≡◌};
 ghost use Rattle.words.specs.Readings.{dwell_reading};
 
 use crate::fault::Fault;
-use crate::word::{Bit, Word, seven_digits};
+use crate::pair::WordPair;
+use crate::word::Bit;
 
-pub fn read_dwell(first: Word, second: Word) -> Result<u32, Fault>
-    ensures { result ≡ dwell_reading first second }
-{
-    if first.has(Bit::B17) || first.has(Bit::B16) || first.has(Bit::B15) || first.has(Bit::B14) {
-        return Err(first.wrong());
+impl WordPair {
+    pub fn read_dwell(self) -> Result<u32, Fault>
+        ensures { result ≡ dwell_reading self.first self.second }
+    {
+        let first = self.first;
+        if first.has(Bit::B17)
+            || first.has(Bit::B16)
+            || first.has(Bit::B15)
+            || first.has(Bit::B14)
+        {
+            return Err(first.wrong());
+        }
+        self.seven_digits()
     }
-    seven_digits(first, second)
 }

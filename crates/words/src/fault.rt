@@ -1,88 +1,64 @@
 // A refusal: the question that got the no, and where.
-ghost use Rattle.std.specs.Prelude.{◌≡◌};
-ghost use Rattle.words.specs.Faults.{question_number, axis_number, named_axis};
+ghost use Rattle.std.specs.Prelude.{◌≡◌, Some};
+ghost use Rattle.words.specs.Faults.{question_number, named_axis};
+
+use crate::axis::AxisId;
+use std::fmt;
 
 // The questions that the card asks before it accepts anything, in the order of their numbers.
 #[derive(Clone, Copy, PartialEq, Eq, Debug)]
 pub enum Question {
     // are there two words, and is the first the kind that the call takes?
-    Kind,
+    Kind = 1,
     // are there one to three records, and is their directory there?
-    Directory,
+    Directory = 2,
     // are the directory's pairs right, and does the block end where they say?
-    Pairs,
+    Pairs = 3,
     // does every axis word name an axis, each above the one before?
-    Axis,
+    Axis = 4,
     // are all digits 0 to 9 and all fixed bits 0?
-    Digits,
+    Digits = 5,
     // is each value in its range?
-    Range,
+    Range = 6,
     // has the axis parameters?
-    Parameters,
+    Parameters = 7,
     // is the axis in a mode that allows this?
-    Mode,
+    Mode = 8,
     // is the axis homed?
-    Homed,
+    Homed = 9,
     // is the axis, or for an offer the card, free of a held load?
-    Held,
+    Held = 10,
     // are all axes of a load homed and at rest?
-    AtRest,
+    AtRest = 11,
     // would both limits still show as positions under a preset?
-    Shown,
+    Shown = 12,
     // is the ticket this card's, and is a load held?
-    Ticket,
+    Ticket = 13,
     // are the bits of a move's control word right?
-    Control,
+    Control = 14,
     // are all words of a moveset there, and none beyond?
-    Length,
+    Length = 15,
     // does the axis hold a moveset?
-    Moveset,
+    Moveset = 16,
     // has the status buffer exactly its fourteen words?
-    Buffer,
+    Buffer = 23,
 }
 
 impl Question {
     pub fn number(self) -> u8
         ensures { result ≡ question_number self }
     {
-        match self {
-            Question::Kind => 1,
-            Question::Directory => 2,
-            Question::Pairs => 3,
-            Question::Axis => 4,
-            Question::Digits => 5,
-            Question::Range => 6,
-            Question::Parameters => 7,
-            Question::Mode => 8,
-            Question::Homed => 9,
-            Question::Held => 10,
-            Question::AtRest => 11,
-            Question::Shown => 12,
-            Question::Ticket => 13,
-            Question::Control => 14,
-            Question::Length => 15,
-            Question::Moveset => 16,
-            Question::Buffer => 23,
-        }
+        self as u8
     }
-}
 
-// Which of the card's three axes.
-#[derive(Clone, Copy, PartialEq, Eq, Debug)]
-pub enum AxisId {
-    One,
-    Two,
-    Three,
-}
-
-impl AxisId {
-    pub fn number(self) -> u8
-        ensures { result ≡ axis_number self }
+    // The refusal by a no to this question.
+    pub fn refused(self, axis: AxisId, word: usize) -> Fault
+        ensures { result ≡ record { question = self; axis = Some axis; word = word } }
     {
-        match self {
-            AxisId::One => 1,
-            AxisId::Two => 2,
-            AxisId::Three => 3,
+        Fault {
+            question: self,
+            axis: Some(axis),
+            word,
         }
     }
 }
@@ -102,9 +78,16 @@ impl Fault {
     pub fn axis_number(self) -> u8
         ensures { result ≡ named_axis self.axis }
     {
-        match self.axis {
-            Some(axis) => axis.number(),
-            None => 0,
-        }
+        self.axis.map_or(0, AxisId::number)
+    }
+}
+
+impl fmt::Display for Fault {
+    // The three numbers of a refusal: question, axis and word.
+    fn fmt<W: fmt::Write>(&self, f: &mut fmt::Formatter<W>) -> fmt::Result {
+        let question = self.question.number();
+        let axis = self.axis_number();
+        let word = self.word;
+        write!(f, "{question} {axis} {word}")
     }
 }

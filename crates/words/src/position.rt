@@ -4,7 +4,8 @@ ghost use Rattle.words.specs.Written.{Writing, packed, sign_bit};
 ghost use Rattle.words.specs.Readings.{size_reading, signed_reading, position_reading, target_reading};
 
 use crate::fault::Fault;
-use crate::word::{Bit, Word, seven_digits};
+use crate::pair::WordPair;
+use crate::word::Bit;
 
 // The largest size of a position, in counts.
 pub const POSITION_MAX: u32 = 19_999_999;
@@ -23,52 +24,55 @@ pub struct PositionWords {
     pub second: u16,
 }
 
-// A position in a place that has no incremental mark.
-pub fn read_position(first: Word, second: Word) -> Result<i32, Fault>
-    ensures { result ≡ position_reading first second }
-{
-    if first.has(Bit::B16) || first.has(Bit::B15) {
-        return Err(first.wrong());
+impl WordPair {
+    // A position in a place that has no incremental mark.
+    pub fn read_position(self) -> Result<i32, Fault>
+        ensures { result ≡ position_reading self.first self.second }
+    {
+        let first = self.first;
+        if first.has(Bit::B16) || first.has(Bit::B15) {
+            return Err(first.wrong());
+        }
+        self.read_signed()
     }
-    read_signed(first, second)
-}
 
-// The position of a move or an offset move, which may be incremental.
-pub fn read_target(first: Word, second: Word) -> Result<Target, Fault>
-    ensures { result ≡ target_reading first second }
-{
-    if first.has(Bit::B16) {
-        return Err(first.wrong());
+    // The position of a move or an offset move, which may be incremental.
+    pub fn read_target(self) -> Result<Target, Fault>
+        ensures { result ≡ target_reading self.first self.second }
+    {
+        if self.first.has(Bit::B16) {
+            return Err(self.first.wrong());
+        }
+        let counts = self.read_signed()?;
+        if self.first.has(Bit::B15) {
+            Ok(Target::Incremental(counts))
+        } else {
+            Ok(Target::Absolute(counts))
+        }
     }
-    let counts = read_signed(first, second)?;
-    if first.has(Bit::B15) {
-        Ok(Target::Incremental(counts))
-    } else {
-        Ok(Target::Absolute(counts))
-    }
-}
 
-// The counts that two words spell, their fixed bits and mark left to the caller.
-fn read_signed(first: Word, second: Word) -> Result<i32, Fault>
-    ensures { result ≡ signed_reading first second }
-{
-    let size = read_size(first, second)? as i32;
-    if first.has(Bit::B17) {
-        Ok(-size)
-    } else {
-        Ok(size)
+    // The counts, fixed bits and mark left to the caller.
+    fn read_signed(self) -> Result<i32, Fault>
+        ensures { result ≡ signed_reading self.first self.second }
+    {
+        let size = self.read_size()? as i32;
+        if self.first.has(Bit::B17) {
+            Ok(-size)
+        } else {
+            Ok(size)
+        }
     }
-}
 
-// The same without the sign.
-fn read_size(first: Word, second: Word) -> Result<u32, Fault>
-    ensures { result ≡ size_reading first second }
-{
-    let digits = seven_digits(first, second)?;
-    if first.has(Bit::B14) {
-        Ok(digits + 10_000_000)
-    } else {
-        Ok(digits)
+    // The same without the sign.
+    fn read_size(self) -> Result<u32, Fault>
+        ensures { result ≡ size_reading self.first self.second }
+    {
+        let digits = self.seven_digits()?;
+        if self.first.has(Bit::B14) {
+            Ok(digits + 10_000_000)
+        } else {
+            Ok(digits)
+        }
     }
 }
 

@@ -37,23 +37,21 @@ fn positions_are_written(rt: HostRuntime) {
     assert_eq!(rt; write_position(-20_000_000), None);
 }
 
+fn pair(first: u16, second: u16) -> WordPair {
+    WordPair {
+        first: word(first, 3),
+        second: word(second, 4),
+    }
+}
+
 #[test]
 fn positions_are_read(rt: HostRuntime) {
+    assert_eq!(rt; pair(0x8001, 0x2345).read_position(), Ok(-12_345));
+    assert_eq!(rt; pair(0x8000, 0x0000).read_position(), Ok(0));
     assert_eq!(rt;
-        read_position(word(0x8001, 3), word(0x2345, 4)),
-        Ok(-12_345)
-    );
-    assert_eq!(rt; read_position(word(0x8000, 3), word(0x0000, 4)), Ok(0));
-    assert_eq!(rt;
-        read_target(word(0xA000, 3), word(0x0000, 4)),
+        pair(0xA000, 0x0000).read_target(),
         Ok(Target::Incremental(0))
     );
-    assert_eq!(rt;
-        read_position(word(0xA000, 3), word(0x000A, 4)),
-        Err(wrong_at(3))
-    );
-    assert_eq!(rt;
-        read_position(word(0x1999, 3), word(0x999A, 4)),
-        Err(wrong_at(4))
-    );
+    assert_eq!(rt; pair(0xA000, 0x000A).read_position(), Err(wrong_at(3)));
+    assert_eq!(rt; pair(0x1999, 0x999A).read_position(), Err(wrong_at(4)));
 }

@@ -1,9 +1,10 @@
 // One word of a block, its bits and its decimal digits.
 ghost use Rattle.std.specs.Prelude.{◌≡◌, ◌<◌};
 ghost use Rattle.words.specs.Words.{on};
-ghost use Rattle.words.specs.Readings.{wrong_word, digit_reading, three_digit_reading, number_reading, seven_digit_reading};
+ghost use Rattle.words.specs.Readings.{wrong_word, digit_reading, three_digit_reading, number_reading};
 
-use crate::fault::{AxisId, Fault, Question};
+use crate::axis::AxisId;
+use crate::fault::{Fault, Question};
 
 // A word with its index in its block and the axis that it is read for: what a refusal names.
 #[derive(Clone, Copy)]
@@ -45,11 +46,7 @@ impl Word {
     pub fn wrong(self) -> Fault
         ensures { result ≡ wrong_word self }
     {
-        Fault {
-            question: Question::Digits,
-            axis: Some(self.axis),
-            word: self.index,
-        }
+        Question::Digits.refused(self.axis, self.index)
     }
 
     // The decimal digit at a place, counted from the right.
@@ -78,13 +75,4 @@ impl Word {
     {
         Ok(self.digit(3)? * 1000 + self.three_digits()?)
     }
-}
-
-// The number that the last three digits of one word and the four of the next spell.
-pub fn seven_digits(first: Word, second: Word) -> Result<u32, Fault>
-    ensures { result ≡ seven_digit_reading first second }
-{
-    let high = u32::from(first.three_digits()?);
-    let low = u32::from(second.four_digits()?);
-    Ok(high * 10_000 + low)
 }
