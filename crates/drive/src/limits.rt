@@ -1,6 +1,6 @@
 // The ceilings of every drive, and places and gaps that keep them. Sums saturate: what does not fit an `i32` is far beyond
 // every ceiling, so it is refused or held all the same.
-ghost use Rattle.std.specs.Prelude.{◌≡◌, pos, ◌+ℤ◌, ◌-ℤ◌, neg_ℤ};
+ghost use Rattle.std.specs.Prelude.{◌≡◌, ◌+ℤ◌, ◌-ℤ◌, neg_ℤ};
 ghost use Rattle.drive.specs.Values.{held, gap_ceiling, reach_ceiling, Reached, Within};
 
 use crate::Refusal;
@@ -10,25 +10,24 @@ pub(crate) const GAP_CEILING: i32 = 1_000_000;
 pub(crate) const REACH_CEILING: i32 = 19_999_999;
 
 // `place`, or a refusal if it is beyond the reach.
-pub(crate) fn within_reach(place: i32, reach: i32) -> Result<i32, Refusal>
-    requires { Within (pos 0) reach_ceiling reach }
-    ensures { Reached reach place result }
+pub(crate) fn within_reach(place: i32) -> Result<i32, Refusal>
+    ensures { Reached reach_ceiling place result }
 {
-    if place < -reach || place > reach {
+    if place < -REACH_CEILING || place > REACH_CEILING {
         return Err(Refusal::Beyond);
     }
     Ok(place)
 }
 
 // The place that is `counts` from `place`, or a refusal if it is beyond the reach.
-pub(crate) fn place_after(place: i32, counts: i32, reach: i32) -> Result<i32, Refusal>
-    requires { Within (pos 0) reach_ceiling reach }
-    ensures { Reached reach (place +ℤ counts) result }
+pub(crate) fn place_after(place: i32, counts: i32) -> Result<i32, Refusal>
+    ensures { Reached reach_ceiling (place +ℤ counts) result }
 {
-    within_reach(place.saturating_add(counts), reach)
+    within_reach(place.saturating_add(counts))
 }
 
-// The gap with `counts` added.
+// The gap with `counts` added. Held by one function of the saturated result, a sum and a difference would each have to be shown
+// to be held alike with saturation and without, at six goals of the two callers.
 pub(crate) fn held_sum(gap: i32, counts: i32) -> i32
     ensures value { result ≡ held (gap +ℤ counts) }
     ensures within { Within (neg_ℤ gap_ceiling) gap_ceiling result }

@@ -11,6 +11,6 @@ pub fn braking_distance(speed: u16, deceleration: u16) -> u32
     // times the mean of those two.
     let step = deceleration.max(1);
     let last = speed % step;
-    let ticks = speed as u64 / step as u64 + 1;
-    ((speed as u64 + last as u64) * ticks / 2) as u32
+    let ticks = u64::from(speed / step) + 1;
+    ((u64::from(speed) + u64::from(last)) * ticks / 2) as u32
 }

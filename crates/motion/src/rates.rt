@@ -49,6 +49,7 @@ fn fastest_fitting(top: u16, deceleration: u16, room: u64) -> u16
 {
     let mut low = 0;
     let mut high = top;
+    // No slice holds the speeds, so the library's search over a slice does not serve.
     while low < high {
         let middle = high - (high - low) / 2;
         if u64::from(braking_distance(middle, deceleration)) <= room {

@@ -10,6 +10,7 @@ use super::Analog;
 use crate::limits::{REACH_CEILING, held_difference, held_sum, place_after, within_reach};
 use crate::{Drive, Refusal};
 
+// A call that says what becomes of the output gives all its clauses itself, the trait's too: the language asks that.
 impl Drive for Analog {
     ghost meaning = { analog_values };
 
@@ -26,7 +27,7 @@ impl Drive for Analog {
         if !self.awake {
             return Err(Refusal::Asleep);
         }
-        self.place = place_after(self.place, counts, REACH_CEILING)?;
+        self.place = place_after(self.place, counts)?;
         self.gap = held_sum(self.gap, counts);
         self.latest = counts;
         Ok(())
@@ -49,7 +50,7 @@ impl Drive for Analog {
         ensures output { output_state self.new ≡ output_after_name (analog_values self.old) (output_state self.old) place }
         ensures obeyed { AnalogObeys self.old (Name place) self.new }
     {
-        self.place = within_reach(place, REACH_CEILING)?;
+        self.place = within_reach(place)?;
         self.latest = 0;
         Ok(())
     }

@@ -1,8 +1,8 @@
 // The analog drive's output.
-ghost use Rattle.std.specs.Prelude.{◌≡◌, pos, ◌+ℤ◌, ◌*ℤ◌, neg_ℤ};
+ghost use Rattle.std.specs.Prelude.{◌≡◌, ◌+ℤ◌, ◌*ℤ◌, neg_ℤ};
 ghost use Rattle.drive.specs.Analog.{analog_values, output_state};
-ghost use Rattle.drive.specs.Output.{gain_ceiling, output_ceiling, output_value, toward_zero};
-ghost use Rattle.drive.specs.Values.{Within, nearest};
+ghost use Rattle.drive.specs.Output.{output_ceiling, output_value, toward_zero};
+ghost use Rattle.drive.specs.Values.{nearest};
 
 use super::Analog;
 
@@ -12,7 +12,7 @@ impl Analog {
     pub fn output(&self) -> i16
         ensures { result ≡ output_value (output_state self.now) (analog_values self.now).gap }
     {
-        held_output(thousandth(weighted_sum(self.k1, self.gap, self.k2, self.latest)))
+        held_output(thousandth(self.weighted_sum()))
     }
 
     // The step that the output follows: 0 from sleep, wake or a name until the next step.
@@ -21,14 +21,13 @@ impl Analog {
     {
         self.latest
     }
-}
 
-// Gains are below ten thousand, so both products and their sum fit an `i64`.
-fn weighted_sum(k1: i32, gap: i32, k2: i32, latest: i32) -> i64
-    requires { (Within (pos 0) gain_ceiling k1) × (Within (pos 0) gain_ceiling k2) }
-    ensures { result ≡ (k1 *ℤ gap) +ℤ (k2 *ℤ latest) }
-{
-    k1 as i64 * gap as i64 + k2 as i64 * latest as i64
+    // Gains are below ten thousand, so both products and their sum fit an `i64`.
+    fn weighted_sum(&self) -> i64
+        ensures { result ≡ (self.now.k1 *ℤ self.now.gap) +ℤ (self.now.k2 *ℤ self.now.latest) }
+    {
+        i64::from(self.k1) * i64::from(self.gap) + i64::from(self.k2) * i64::from(self.latest)
+    }
 }
 
 fn thousandth(sum: i64) -> i64
