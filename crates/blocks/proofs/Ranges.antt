@@ -1,7 +1,7 @@
 -- The ranges of a record's values, asked one after the other.
 use Rattle.std.proofs.Common.{◌≡◌, ℕ, ◌+◌, ◌<◌, ◌≤◌, Bool, cond, ◌&&◌, leb, List, length, get_or, drop, Ok, Err, Option, sym, ap, ◌∙◌, add_assoc}
 use Rattle.std.proofs.lemmas.List.{at_drop_more, at_drop_all}
-use Rattle.words.specs.declared.fault.AxisId.{AxisId}
+use Rattle.words.specs.declared.axis.AxisId.{AxisId}
 use Rattle.words.specs.declared.fault.Question.TheVariants.{Range}
 use Rattle.blocks.specs.declared.bounds.Bounded.{Bounded}
 use Rattle.blocks.specs.Bounds.{ranges_from}

@@ -1,6 +1,6 @@
 -- Ranges of the values in a record's words.
 use Rattle.std.specs.Prelude.{ℕ, ◌+◌, ◌&&◌, List, [], ◌∷◌, Option, nat_le}
-use Rattle.words.specs.declared.fault.AxisId.{AxisId}
+use Rattle.words.specs.declared.axis.AxisId.{AxisId}
 use Rattle.words.specs.declared.fault.Question.TheVariants.{Range}
 use Rattle.blocks.specs.declared.bounds.Bounded.{Bounded}
 use Rattle.blocks.specs.Questions.{Asked, ask}

@@ -1,7 +1,7 @@
 -- The number words of a record, by their index in it.
 use Rattle.std.specs.Prelude.{ℕ, zero, suc, ◌+◌, List, [], ◌∷◌, Option, slice_set}
 use Rattle.words.specs.Words.{four_decimal, four_digits}
-use Rattle.words.specs.declared.fault.AxisId.{AxisId}
+use Rattle.words.specs.declared.axis.AxisId.{AxisId}
 use Rattle.words.specs.declared.fault.Question.TheVariants.{Digits}
 use Rattle.blocks.specs.Directory.{word_at}
 use Rattle.blocks.specs.Questions.{Asked, ask}

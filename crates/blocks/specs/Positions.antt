@@ -1,7 +1,7 @@
 -- The positions of a record, by the index of their first words in it.
 use Rattle.std.specs.Prelude.{ℕ, zero, suc, ◌+◌, List, [], ◌∷◌, ℤ, Option}
 use Rattle.words.specs.Words.{position_start, position_value, four_decimal}
-use Rattle.words.specs.declared.fault.AxisId.{AxisId}
+use Rattle.words.specs.declared.axis.AxisId.{AxisId}
 use Rattle.words.specs.declared.fault.Question.TheVariants.{Digits}
 use Rattle.blocks.specs.Directory.{word_at}
 use Rattle.blocks.specs.Questions.{Asked, ask}
