@@ -32,7 +32,7 @@ impl TryFrom<Written> for Command {
 
     fn try_from(written: Written) -> Result<Command, OutOfRange> {
         let code = written.code;
-        if code < 1 || code > 8 {
+        if !(1..=8).contains(&code) {
             return Err(OutOfRange::Code);
         }
         let most = if code == 8 { 127 } else { 0 };
@@ -72,11 +72,8 @@ impl Block for CommandBlock {
     ghost value = { written_command };
 
     fn read(record: RecordWords) -> Result<Written, Fault> {
-        let numbers = read_fields::<u16, 2>(record, 1)?;
-        Ok(Written {
-            code: numbers[0],
-            argument: numbers[1],
-        })
+        let [code, argument] = read_fields::<u16, 2>(record, 1)?;
+        Ok(Written { code, argument })
     }
 
     fn check(&self, axis: AxisId, start: usize, written: Written) -> Result<Command, Fault> {

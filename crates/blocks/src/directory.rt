@@ -28,7 +28,7 @@ fn read_count(words: &[u16], kind: Kind) -> Result<usize, Fault>
         return Err(unnamed(Question::Kind, 0));
     }
     let count = usize::from(words[1]);
-    if count < 1 || count > 3 {
+    if !(1..=3).contains(&count) {
         return Err(unnamed(Question::Directory, 1));
     }
     if words.len() < 2 + 2 * count {

@@ -3,8 +3,8 @@ use Rattle.std.proofs.lemmas.Bool.Decides.{nat_tests}
 use Rattle.blocks.proofs.Ranges.{bounds_step, no_bounds}
 use Rattle.blocks.proofs.bounds.check_bounds.Goals as goal
 
-pub returns-then-bounded-lt1 : goal.returns-then-bounded-lt1
-returns-then-bounded-lt1 c =
+pub returns-then-not-contains : goal.returns-then-not-contains
+returns-then-not-contains c =
     let s = bounds_step (Some c.args.axis) c.args.start c.args.first c.loop-i.i c.args.values.now (record { value = 0; most = 0 }) c.loop-i-test.true in
     grind (arith, nat_tests)
 
