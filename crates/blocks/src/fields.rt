@@ -1,8 +1,7 @@
 // The fields of a record: values of one or more words each, one behind the other.
 ghost use Rattle.std.specs.Prelude.{◌≡◌, ℕ, ◌+◌, ◌*◌, ◌<◌, ◌≤◌, List, Option, length, Some};
 ghost use Rattle.words.specs.declared.axis.AxisId.{AxisId};
-ghost use Rattle.blocks.specs.Directory.{word_at};
-ghost use Rattle.blocks.specs.Fields.{fields_digits, fields_from};
+ghost use Rattle.blocks.specs.Fields.{word_for, fields_digits, fields_from};
 ghost use Rattle.blocks.specs.Numbers.{number, number_digits};
 ghost use Rattle.blocks.specs.Positions.{position, position_digits};
 ghost use Rattle.blocks.specs.Questions.{Asked, answer};
@@ -20,7 +19,7 @@ impl RecordWords<'_> {
     // The word of that index in the record.
     pub fn word(self, index: usize) -> Word
         requires { self.start + index < length self.block.words.now }
-        ensures { result ≡ record { bits = word_at self.entry.block.words.now (self.entry.start + index); axis = self.entry.block.axis; index = self.entry.start + index } }
+        ensures { result ≡ word_for self.entry.block.words.now self.entry.block.axis (self.entry.start + index) }
     {
         self.block.word(self.start + index).unwrap()
     }
@@ -28,8 +27,7 @@ impl RecordWords<'_> {
     // That word and the next one.
     pub fn pair(self, index: usize) -> WordPair
         requires { self.start + index + 1 < length self.block.words.now }
-        ensures first { result.first ≡ record { bits = word_at self.entry.block.words.now (self.entry.start + index); axis = self.entry.block.axis; index = self.entry.start + index } }
-        ensures second { result.second ≡ record { bits = word_at self.entry.block.words.now (self.entry.start + index + 1); axis = self.entry.block.axis; index = self.entry.start + index + 1 } }
+        ensures { result ≡ record { first = word_for self.entry.block.words.now self.entry.block.axis (self.entry.start + index); second = word_for self.entry.block.words.now self.entry.block.axis (self.entry.start + index + 1) } }
     {
         self.block.pair(self.start + index).unwrap()
     }

@@ -1,9 +1,9 @@
 use Rattle.std.proofs.Common.{◌≡◌, ◌+◌, ◌-◌, ◌*◌, ◌≤◌, Some, Err, sym, ap, ◌∙◌, arith, rules}
 use native.Mathlib.Nat.{sub-zero}
 use Rattle.std.proofs.lemmas.List.{length-replicate}
-use Rattle.std.proofs.lemmas.Result.{err_from_is_err_and}
 use Rattle.blocks.specs.Questions.{answer}
 use Rattle.blocks.proofs.FieldsRead.{all_fields, field_no, field_ok, no_fields}
+use Rattle.blocks.proofs.Questions.{err_passed}
 use Rattle.blocks.proofs.fields.read_fields.Goals as goal
 
 pub loop-i-init : goal.loop-i-init
@@ -17,13 +17,12 @@ pub returns-in_err-field : goal.returns-in_err-field
 returns-in_err-field g c =
     let r = c.args.«record» in
     let ws = r.block.words.now in
-    let p = err_from_is_err_and c.from_residual.result c.from_residual.ensures.1 in
     let d = g.T.Field.digits ws (Some r.block.axis) r.start in
     let v = g.T.Field.value ws r.start in
     let j = c.args.first + c.loop-i.i * g.T.Field.WORDS in
-    p.1 ∙ ap Err p.2
-    ∙ field_no d v g.T.Field.WORDS j g.row.N c.loop-i.i _ _ (omega arith) (c.in_err-field.ensures ∙ ap (λ w. answer (d (c.args.first + c.loop-i.i * w)) (v (c.args.first + c.loop-i.i * w))) c.WORDS.ensures)
-    ∙ c.loop-i.invariant
+    err_passed _ _ _ c.from_residual.ensures.1
+    (field_no d v g.T.Field.WORDS j g.row.N c.loop-i.i _ _ (omega arith) (c.in_err-field.ensures ∙ ap (λ w. answer (d (c.args.first + c.loop-i.i * w)) (v (c.args.first + c.loop-i.i * w))) c.WORDS.ensures)
+    ∙ c.loop-i.invariant)
 
 pub loop-i-preserved : goal.loop-i-preserved
 loop-i-preserved g c =
