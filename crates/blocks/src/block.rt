@@ -41,12 +41,7 @@ pub(crate) trait Block {
         requires { record.start + record_length KIND ≤ length record.block.words.now }
         ensures { result ≡ answer (digits record.entry.block.words.now (Some record.entry.block.axis) record.entry.start) (written record.entry.block.words.now record.entry.start) };
 
-    fn check(
-        &self,
-        axis: AxisId,
-        start: usize,
-        values: Self::Written,
-    ) -> Result<Self::Value, Fault>
+    fn check(&self, axis: AxisId, start: usize, values: Self::Written) -> Result<Self::Value, Fault>
         requires { start + 17 < 2 ^ 64 }
         ensures { result ≡ answer (ranges self.now (Some axis) values start) (value values) };
 }
@@ -98,9 +93,11 @@ fn check_records<B: Block>(
             let Some(record) = written else {
                 return Ok(None);
             };
-            let word = record.word;
-            let value = block.check(axis, word, record.value)?;
-            Ok(Some(Record { word, value }))
+            let value = block.check(axis, record.word, record.value)?;
+            Ok(Some(Record {
+                word: record.word,
+                value,
+            }))
         },
     )
 }

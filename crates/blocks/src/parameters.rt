@@ -22,6 +22,7 @@ struct ParameterBlock {
 
 impl Block for ParameterBlock {
     type Written = Parameters;
+
     type Value = Parameters;
 
     const KIND: Kind = Kind::Parameters;

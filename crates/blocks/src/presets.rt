@@ -15,6 +15,7 @@ struct PresetBlock;
 
 impl Block for PresetBlock {
     type Written = i32;
+
     type Value = i32;
 
     const KIND: Kind = Kind::Presets;

@@ -1,4 +1,4 @@
-use Rattle.std.proofs.Common.{◌≡◌, ◌+◌, ◌^◌, ◌<◌, length, Ok, Err, sym, ap, ◌∙◌, rules}
+use Rattle.std.proofs.Common.{◌+◌, ◌^◌, ◌<◌, length, ap, ◌∙◌, rules}
 use Rattle.blocks.specs.Directory.{record_length, directory_questions, starts_by_axis}
 use Rattle.blocks.specs.Questions.{answer}
 use Rattle.blocks.specs.Records.{records_from, by_axis}

@@ -1,4 +1,4 @@
-use Rattle.std.proofs.Common.{◌≡◌, Ok, Err, sym, ap, ◌∙◌, rules}
+use Rattle.std.proofs.Common.{◌≡◌, Ok, sym, ap, ◌∙◌, rules}
 use Rattle.blocks.specs.Directory.{count_questions, pair_questions, axis_questions, start_questions, starts_by_axis, record_length}
 use Rattle.blocks.specs.Questions.{answer}
 use Rattle.blocks.proofs.Questions.{passed, stopped, passed_all, stopped_all, err_passed}

@@ -1,8 +1,8 @@
-use Rattle.std.proofs.Common.{◌≡◌, ◌+◌, ◌-◌, ◌*◌, ◌≤◌, Some, Err, sym, ap, ◌∙◌, arith, rules}
+use Rattle.std.proofs.Common.{◌≡◌, ◌+◌, ◌*◌, Some, ap, ◌∙◌, arith}
 use native.Mathlib.Nat.{sub-zero}
 use Rattle.std.proofs.lemmas.List.{length-replicate}
 use Rattle.blocks.specs.Questions.{answer}
-use Rattle.blocks.proofs.FieldsRead.{all_fields, field_no, field_ok, no_fields}
+use Rattle.blocks.proofs.FieldsRead.{all_fields, field_no, field_ok}
 use Rattle.blocks.proofs.Questions.{err_passed}
 use Rattle.blocks.proofs.fields.read_fields.Goals as goal
 

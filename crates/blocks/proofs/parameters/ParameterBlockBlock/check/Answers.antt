@@ -1,4 +1,4 @@
-use Rattle.std.proofs.Common.{Some, Ok, Err, sym, ap, ◌∙◌, w32, SFits, rules}
+use Rattle.std.proofs.Common.{Some, Err, sym, ap, ◌∙◌, w32, SFits, rules}
 use Rattle.std.proofs.lemmas.Int.{to_z-of_z}
 use Rattle.std.proofs.lemmas.Bool.{cond-true, cond-false}
 use Rattle.words.specs.declared.fault.Question.TheVariants.{Range}

@@ -1,4 +1,4 @@
-use Rattle.std.proofs.Common.{Some, Ok, Err, sym, ap, ◌∙◌}
+use Rattle.std.proofs.Common.{Some, Ok, sym, ap, ◌∙◌}
 use Rattle.blocks.specs.Fields.{fields_from}
 use Rattle.blocks.specs.Numbers.{number_digits}
 use Rattle.blocks.specs.Parameters.{parameters_written, parameter_digits, assembled}

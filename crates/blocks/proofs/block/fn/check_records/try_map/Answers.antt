@@ -1,4 +1,4 @@
-use Rattle.std.proofs.Common.{Some, Err, ap, ◌∙◌}
+use Rattle.std.proofs.Common.{Some}
 use Rattle.blocks.proofs.Passes.{record_no, record_ok}
 use Rattle.blocks.proofs.Questions.{err_passed}
 use Rattle.blocks.proofs.block.fn.check_records.try_map.Goals as goal
