@@ -60,6 +60,7 @@ impl Directory<'_> {
     }
 
     // Whether the pairs of the directory and the end of the block are right.
+    #[tactic(auto, using(crate::proofs::Starts::pairs_step, crate::proofs::Starts::pairs_end, crate::proofs::Starts::block_end_is))]
     fn check_pairs(self) -> Result<(), Fault>
         ensures value { result ≡ answer (pair_questions self.entry.record_length self.entry.words.now) tt }
         ensures ends { OnOk result (length self.entry.words.now ≡ block_end self.entry.record_length self.entry.words.now) }
@@ -80,6 +81,7 @@ impl Directory<'_> {
     }
 
     // Whether the axis words are 1 to 3 and rise.
+    #[tactic(auto, using(crate::proofs::Starts::axes_step, crate::proofs::Starts::inside_block))]
     fn check_axes(self) -> Result<(), Fault>
         requires { length self.words.now ≡ block_end self.record_length self.words.now }
         ensures { result ≡ answer (axis_questions self.entry.record_length self.entry.words.now) tt }
@@ -97,6 +99,7 @@ impl Directory<'_> {
     }
 
     // Where the record of an axis starts.
+    #[tactic(auto, using(crate::proofs::Starts::start_of_step, crate::proofs::Starts::inside_block))]
     fn start_of(self, axis: AxisId) -> Option<usize>
         requires { length self.words.now ≡ block_end self.record_length self.words.now }
         ensures value { result ≡ start_of self.entry.words.now (axis_number axis) (starts self.entry.record_length self.entry.words.now) }

@@ -17,7 +17,7 @@ pub(crate) struct RecordWords<'a> {
 
 impl RecordWords<'_> {
     // The word of that index in the record.
-    pub fn word(self, index: usize) -> Word
+    pub(crate) fn word(self, index: usize) -> Word
         requires { self.start + index < length self.block.words.now }
         ensures { result ≡ word_for self.entry.block.words.now self.entry.block.axis (self.entry.start + index) }
     {
@@ -25,7 +25,7 @@ impl RecordWords<'_> {
     }
 
     // That word and the next one.
-    pub fn pair(self, index: usize) -> WordPair
+    pub(crate) fn pair(self, index: usize) -> WordPair
         requires { self.start + index + 1 < length self.block.words.now }
         ensures { result ≡ record { first = word_for self.entry.block.words.now self.entry.block.axis (self.entry.start + index); second = word_for self.entry.block.words.now self.entry.block.axis (self.entry.start + index + 1) } }
     {
