@@ -68,8 +68,8 @@ impl Block for CommandBlock {
 
     ghost value = { written_command };
 
-    fn read(record: RecordWords) -> Result<Written, Fault> {
-        let [code, argument] = read_fields::<u16, 2>(record, 1)?;
+    fn read(words: RecordWords) -> Result<Written, Fault> {
+        let [code, argument] = read_fields::<u16, 2>(words, 1)?;
         Ok(Written { code, argument })
     }
 

@@ -37,9 +37,9 @@ impl Block for ParameterBlock {
 
     ghost value = { λ parameters. parameters };
 
-    fn read(record: RecordWords) -> Result<Parameters, Fault> {
-        let positions = read_fields(record, 1)?;
-        let numbers = read_fields(record, 9)?;
+    fn read(words: RecordWords) -> Result<Parameters, Fault> {
+        let positions = read_fields(words, 1)?;
+        let numbers = read_fields(words, 9)?;
         Ok(assemble(positions, numbers))
     }
 

@@ -1,4 +1,4 @@
-use Rattle.std.proofs.Common.{◌≡◌, ◌+◌, ◌^◌, ◌<◌, length, Ok, Err, ◌∙◌, rules}
+use Rattle.std.proofs.Common.{◌+◌, ◌^◌, ◌<◌, length, Ok, Err, ◌∙◌, rules}
 use Rattle.blocks.specs.Directory.{record_length}
 use Rattle.blocks.specs.Records.{records_from, by_axis}
 use Rattle.blocks.proofs.Passes.{at_kind, directory_no, digits_no, ranges_answer, rooms_from}
