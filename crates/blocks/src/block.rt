@@ -37,10 +37,12 @@ pub(crate) trait Block {
     // What it says.
     ghost value: { Self.Written → Self.Value };
 
+    // What the words of a record spell, once their digits are right.
     fn read(words: RecordWords) -> Result<Self::Written, Fault>
         requires { words.start + record_length KIND ≤ length words.block.words.now }
         ensures { result ≡ answer (digits words.entry.block.words.now (Some words.entry.block.axis) words.entry.start) (written words.entry.block.words.now words.entry.start) };
 
+    // What the record at `start` says, once the values that it spells are in range.
     fn check(&self, axis: AxisId, start: usize, values: Self::Written) -> Result<Self::Value, Fault>
         requires { start + 17 < 2 ^ 64 }
         ensures { result ≡ answer (ranges self.now (Some axis) values start) (value values) };

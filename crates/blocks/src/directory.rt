@@ -105,6 +105,7 @@ impl Directory<'_> {
         ensures value { result ≡ start_of self.entry.words.now (axis_number axis) (starts self.entry.record_length self.entry.words.now) }
         ensures inside { Inside self.entry.record_length self.entry.words.now result }
     {
+        // Tried: find over the starts; the proof that its closure looks inside the words did not close.
         for i in 0..self.count {
             let start = self.record_start(i);
             if self.words[start] == u16::from(axis.number()) {
