@@ -1,8 +1,7 @@
 // Ranges of the values in a record's words.
-ghost use Rattle.std.specs.Prelude.{◌≡◌, ◌+◌, ◌^◌, ◌<◌, false, length, Some};
-ghost use Rattle.words.specs.declared.fault.Question.TheVariants.{Range};
+ghost use Rattle.std.specs.Prelude.{◌≡◌, ◌+◌, ◌^◌, ◌<◌, length, Some};
 ghost use Rattle.blocks.specs.Bounds.{ranges_from};
-ghost use Rattle.blocks.specs.Questions.{answer, ask, refusal};
+ghost use Rattle.blocks.specs.Questions.{answer};
 
 use words::{AxisId, Fault, Question};
 
@@ -27,20 +26,9 @@ pub(crate) fn check_bounds(
     ensures { result ≡ answer (ranges_from (Some axis) start first values.now) tt }
 {
     for (i, bounded) in values.iter().enumerate() {
-        if bounded.value < 1 || bounded.value > bounded.most {
-            return Err(out_of_range(axis, start + (first + i)));
+        if !(1..=bounded.most).contains(&bounded.value) {
+            return Err(Question::Range.refused(axis, start + (first + i)));
         }
     }
     Ok(())
-}
-
-// A value of the axis's block is out of its range.
-pub(crate) fn out_of_range(axis: AxisId, word: usize) -> Fault
-    ensures { result ≡ refusal (ask Range (Some axis) word false) }
-{
-    Fault {
-        question: Question::Range,
-        axis: Some(axis),
-        word,
-    }
 }
