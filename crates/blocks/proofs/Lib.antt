@@ -1,6 +1,6 @@
 pub mod Questions
 pub mod Order
-pub mod Passes
 pub mod Starts
-pub mod Fields
+pub mod Passes
+pub mod FieldsRead
 pub mod Ranges

@@ -6,7 +6,7 @@ use Rattle.words.specs.declared.axis.AxisId.{AxisId}
 use Rattle.words.specs.declared.axis.AxisId.TheVariants.{One, Two, Three}
 use Rattle.words.specs.declared.fault.Question.TheVariants.{Axis}
 use Rattle.blocks.specs.declared.kinds.Kind.{Kind}
-use Rattle.blocks.specs.declared.records.Starts.{Starts}
+use Rattle.words.specs.declared.by_axis.ByAxis.{ByAxis}
 use Rattle.blocks.specs.Directory.{word_at, record_length, axes_from, axis_of, start_of, starts, starts_by_axis, count_questions, pair_questions, axis_questions, start_questions, directory_questions}
 use Rattle.blocks.specs.Questions.{Asked, ask, refusal, answer}
 use Rattle.blocks.specs.Records.{in_turn, at_start, by_axis}
@@ -76,7 +76,7 @@ same_order f ws above (at ∷ more) a v e =
     (three_cases w above (ltb-true above w b.0) (leb-true w 3 b.1))
 
 -- in a block whose directory is right, the questions of its records in turn are those of the axes
-pub turn_by_axis : (k : Kind) (ws : List ℕ) (f : Option AxisId → ℕ → List Asked) (s : Starts) → Ok s ≡ answer (directory_questions k ws) (starts_by_axis (record_length k) ws) → in_turn (record_length k) ws f ≡ by_axis f s
+pub turn_by_axis : (k : Kind) (ws : List ℕ) (f : Option AxisId → ℕ → List Asked) (s : ByAxis (Option ℕ)) → Ok s ≡ answer (directory_questions k ws) (starts_by_axis (record_length k) ws) → in_turn (record_length k) ws f ≡ by_axis f s
 turn_by_axis k ws f s e =
     let len = record_length k in
     let same = passed_value (directory_questions k ws) (starts_by_axis len ws) s e in

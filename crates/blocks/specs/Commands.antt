@@ -1,13 +1,16 @@
 -- Command blocks. A record is the axis, a code and an argument.
-use Rattle.std.specs.Prelude.{ℕ, ◌+◌, cond, ◌&&◌, List, [], ◌∷◌, ◌++◌, Option, ◌==◌, nat_le}
+use Rattle.std.specs.Prelude.{ℕ, ◌+◌, cond, ◌&&◌, List, [], ◌∷◌, ◌++◌, Option, Result, Ok, Err, ◌==◌, nat_le}
 use Rattle.words.specs.declared.axis.AxisId.{AxisId}
+use Rattle.words.specs.declared.by_axis.ByAxis.{ByAxis}
 use Rattle.words.specs.declared.fault.Question.TheVariants.{Range}
 use Rattle.modes.specs.Commands.{command_code}
 use Rattle.modes.specs.declared.commands.Command.{Command}
 use Rattle.modes.specs.declared.commands.Command.TheVariants as the
+use Rattle.blocks.specs.declared.commands.OutOfRange.{OutOfRange}
+use Rattle.blocks.specs.declared.commands.OutOfRange.TheVariants as range
 use Rattle.blocks.specs.declared.commands.Written.{Written}
 use Rattle.blocks.specs.declared.kinds.Kind.TheVariants.{Commands}
-use Rattle.blocks.specs.declared.records.Records.{Records}
+use Rattle.blocks.specs.declared.records.Record.{Record}
 use Rattle.blocks.specs.Directory.{directory_questions, starts_by_axis}
 use Rattle.blocks.specs.Numbers.{number, number_digits}
 use Rattle.blocks.specs.Questions.{Asked, ask}
@@ -52,5 +55,10 @@ command_questions ws =
     ++ (in_turn 3 ws (command_digits ws) ++ in_turn 3 ws (λ axis at. command_ranges axis (command_written ws at) at))
 
 -- what an accepted command block says
-abbrev pub commands : List ℕ → Records Command
+abbrev pub commands : List ℕ → ByAxis (Option (Record Command))
 commands ws = records_from (λ at. written_command (command_written ws at)) (starts_by_axis 3 ws)
+
+-- the command that is written, or the word that is out of its range: the code is asked before the argument
+abbrev pub command_of_written : Written → Result Command OutOfRange
+command_of_written w =
+    cond (nat_le 1 w.code && nat_le w.code 8) (cond (nat_le w.argument (argument_max w.code)) (Ok (written_command w)) (Err range.Argument)) (Err range.Code)

@@ -3,10 +3,10 @@ use Rattle.std.specs.Prelude.{ℕ, zero, suc, ◌+◌, ◌*◌, ◌≤◌, cond,
 use Rattle.words.specs.Faults.{axis_number}
 use Rattle.words.specs.declared.axis.AxisId.{AxisId}
 use Rattle.words.specs.declared.axis.AxisId.TheVariants.{One, Two, Three}
+use Rattle.words.specs.declared.by_axis.ByAxis.{ByAxis}
 use Rattle.words.specs.declared.fault.Question.TheVariants as q
 use Rattle.blocks.specs.declared.kinds.Kind.{Kind}
 use Rattle.blocks.specs.declared.kinds.Kind.TheVariants.{Parameters, Commands, Presets}
-use Rattle.blocks.specs.declared.records.Starts.{Starts}
 use Rattle.blocks.specs.Questions.{Asked, ask}
 
 -- the number that word 0 of a block bears
@@ -103,7 +103,7 @@ start_of ws n [] = None
 start_of ws n (at ∷ more) = cond (word_at ws at == n) (Some at) (start_of ws n more)
 
 -- where the record of each axis starts
-abbrev pub starts_by_axis : ℕ → List ℕ → Starts
+abbrev pub starts_by_axis : ℕ → List ℕ → ByAxis (Option ℕ)
 starts_by_axis len ws =
     record { one = start_of ws (axis_number One) (starts len ws); two = start_of ws (axis_number Two) (starts len ws); three = start_of ws (axis_number Three) (starts len ws) }
 
@@ -113,7 +113,7 @@ Inside len ws None = Unit {0}
 Inside len ws (Some at) = at + len ≤ length ws
 
 -- each record that is there lies inside the block
-pub record StartsInside (len : ℕ) (ws : List ℕ) (s : Starts) : Type 0 where
+pub record StartsInside (len : ℕ) (ws : List ℕ) (s : ByAxis (Option ℕ)) : Type 0 where
   pub one_inside : Inside len ws s.one
   pub two_inside : Inside len ws s.two
   pub three_inside : Inside len ws s.three

@@ -1,9 +1,11 @@
 pub mod Questions
 pub mod Directory
 pub mod Records
+pub mod Blocks
 pub mod Presets
 pub mod Numbers
 pub mod Commands
 pub mod Positions
+pub mod Fields
 pub mod Bounds
 pub mod Parameters

@@ -1,13 +1,13 @@
 -- Parameter blocks. A record is the axis, four positions and eight numbers.
 use Rattle.std.specs.Prelude.{ℕ, Bool, ◌&&◌, List, [], ◌∷◌, ◌++◌, ℤ, pos, neg_ℤ, Some, None, Option, int_le, nat_le, slice_index, slice_index_or}
+use Rattle.words.specs.Axes.{of_axis}
 use Rattle.words.specs.declared.axis.AxisId.{AxisId}
-use Rattle.words.specs.declared.axis.AxisId.TheVariants.{One, Two, Three}
+use Rattle.words.specs.declared.by_axis.ByAxis.{ByAxis}
 use Rattle.words.specs.declared.fault.Question.TheVariants.{Range}
 use Rattle.moves.specs.declared.parameters.Parameters.{Parameters}
 use Rattle.blocks.specs.declared.bounds.Bounded.{Bounded}
 use Rattle.blocks.specs.declared.kinds.Kind.TheVariants as kind
-use Rattle.blocks.specs.declared.parameters.Reaches.{Reaches}
-use Rattle.blocks.specs.declared.records.Records.{Records}
+use Rattle.blocks.specs.declared.records.Record.{Record}
 use Rattle.blocks.specs.Bounds.{rate_max, ranges_from}
 use Rattle.blocks.specs.Directory.{directory_questions, starts_by_axis}
 use Rattle.blocks.specs.Numbers.{number, number_digits}
@@ -91,18 +91,16 @@ parameter_ranges reach axis p at =
     ask Range axis at (relations_hold reach p) ∷ ranges_from axis at 9 (bounded_rates p)
 
 -- the reach of an axis's drive
-abbrev pub reach_of : Reaches → Option AxisId → ℤ
+abbrev pub reach_of : ByAxis ℤ → Option AxisId → ℤ
 reach_of r None = pos 0
-reach_of r (Some One) = r.one
-reach_of r (Some Two) = r.two
-reach_of r (Some Three) = r.three
+reach_of r (Some axis) = of_axis r axis
 
 -- all questions of a parameter block
-abbrev pub parameter_questions : Reaches → List ℕ → List Asked
+abbrev pub parameter_questions : ByAxis ℤ → List ℕ → List Asked
 parameter_questions r ws =
     directory_questions kind.Parameters ws
     ++ (in_turn 17 ws (parameter_digits ws) ++ in_turn 17 ws (λ axis at. parameter_ranges (reach_of r axis) axis (parameters_written ws at) at))
 
 -- what an accepted parameter block says
-abbrev pub parameters : List ℕ → Records Parameters
+abbrev pub parameters : List ℕ → ByAxis (Option (Record Parameters))
 parameters ws = records_from (parameters_written ws) (starts_by_axis 17 ws)

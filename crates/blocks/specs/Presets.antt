@@ -2,9 +2,10 @@
 use Rattle.std.specs.Prelude.{ℕ, ◌+◌, List, [], ◌∷◌, ◌++◌, ℤ, Option}
 use Rattle.words.specs.Words.{position_start, position_value, four_decimal}
 use Rattle.words.specs.declared.axis.AxisId.{AxisId}
+use Rattle.words.specs.declared.by_axis.ByAxis.{ByAxis}
 use Rattle.words.specs.declared.fault.Question.TheVariants.{Digits}
 use Rattle.blocks.specs.declared.kinds.Kind.TheVariants.{Presets}
-use Rattle.blocks.specs.declared.records.Records.{Records}
+use Rattle.blocks.specs.declared.records.Record.{Record}
 use Rattle.blocks.specs.Directory.{word_at, directory_questions, starts_by_axis}
 use Rattle.blocks.specs.Questions.{Asked, ask}
 use Rattle.blocks.specs.Records.{in_turn, records_from}
@@ -25,5 +26,5 @@ abbrev pub preset_questions : List ℕ → List Asked
 preset_questions ws = directory_questions Presets ws ++ in_turn 3 ws (preset_digits ws)
 
 -- what an accepted preset block says
-abbrev pub presets : List ℕ → Records ℤ
+abbrev pub presets : List ℕ → ByAxis (Option (Record ℤ))
 presets ws = records_from (preset_value ws) (starts_by_axis 3 ws)

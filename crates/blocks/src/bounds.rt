@@ -1,8 +1,7 @@
 // Ranges of the values in a record's words.
-ghost use Rattle.std.specs.Prelude.{◌≡◌, ◌+◌, ◌^◌, ◌<◌, false, length, Some};
-ghost use Rattle.words.specs.declared.fault.Question.TheVariants.{Range};
+ghost use Rattle.std.specs.Prelude.{◌≡◌, ◌+◌, ◌^◌, ◌<◌, length, Some};
 ghost use Rattle.blocks.specs.Bounds.{ranges_from};
-ghost use Rattle.blocks.specs.Questions.{answer, ask, refusal};
+ghost use Rattle.blocks.specs.Questions.{answer};
 
 use words::{AxisId, Fault, Question};
 
@@ -28,19 +27,8 @@ pub(crate) fn check_bounds(
 {
     for (i, bounded) in values.iter().enumerate() {
         if bounded.value < 1 || bounded.value > bounded.most {
-            return Err(out_of_range(axis, start + (first + i)));
+            return Err(Question::Range.refused(axis, start + (first + i)));
         }
     }
     Ok(())
-}
-
-// A value of the axis's block is out of its range.
-pub(crate) fn out_of_range(axis: AxisId, word: usize) -> Fault
-    ensures { result ≡ refusal (ask Range (Some axis) word false) }
-{
-    Fault {
-        question: Question::Range,
-        axis: Some(axis),
-        word,
-    }
 }

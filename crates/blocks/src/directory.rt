@@ -5,7 +5,7 @@ ghost use Rattle.blocks.specs.Directory.{record_count, records_start, count_ques
 
 use crate::kinds::Kind;
 use crate::records::Starts;
-use words::{AxisId, Fault, Question};
+use words::{AxisId, ByAxis, Fault, Question};
 
 // A no that names no axis.
 fn unnamed(question: Question, word: usize) -> Fault
@@ -101,7 +101,7 @@ fn read_starts(words: &[u16], count: usize, record_length: usize) -> Result<Star
 {
     check_pairs(words, count, record_length)?;
     check_axes(words, count, record_length)?;
-    Ok(Starts {
+    Ok(ByAxis {
         one: start_of(words, count, record_length, AxisId::One.number()),
         two: start_of(words, count, record_length, AxisId::Two.number()),
         three: start_of(words, count, record_length, AxisId::Three.number()),

@@ -4,9 +4,9 @@ ghost use Rattle.blocks.specs.Directory.{kind_number, record_length};
 
 #[derive(Clone, Copy)]
 pub enum Kind {
-    Parameters,
-    Commands,
-    Presets,
+    Parameters = 1,
+    Commands = 3,
+    Presets = 4,
 }
 
 impl Kind {
@@ -14,11 +14,7 @@ impl Kind {
     pub fn number(self) -> u16
         ensures { result ≡ kind_number self }
     {
-        match self {
-            Kind::Parameters => 1,
-            Kind::Commands => 3,
-            Kind::Presets => 4,
-        }
+        self as u16
     }
 
     // How many words each of its records has.

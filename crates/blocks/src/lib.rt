@@ -6,13 +6,13 @@
 
 #![tactic(auto)]
 
+mod block;
 mod bounds;
 pub mod commands;
 mod directory;
+mod fields;
 pub mod kinds;
-mod numbers;
 pub mod parameters;
-mod positions;
 pub mod presets;
 pub mod records;
 

@@ -1,110 +1,66 @@
 // Parameter blocks: what they set for each axis that they name.
-ghost use Rattle.std.specs.Prelude.{◌≡◌, ◌+◌, ◌^◌, ◌<◌, ◌≤◌, length, IfOk, Some};
-ghost use Rattle.blocks.specs.Directory.{Inside, StartsInside};
+ghost use Rattle.std.specs.Prelude.{◌≡◌, ◌+◌, ◌^◌, ◌<◌, Some};
+ghost use Rattle.blocks.specs.declared.kinds.Kind.TheVariants as kind;
 ghost use Rattle.blocks.specs.Parameters.{parameters_written, parameter_digits, parameter_ranges, parameter_questions, home_between, within_reach, limits_within, rates_right, relations_hold, assembled, bounded_rates, reach_of, parameters};
 ghost use Rattle.blocks.specs.Questions.{answer};
-ghost use Rattle.blocks.specs.Records.{at_start, by_axis, record_from, records_from, of_record, by_record, Room, Rooms};
 
-use crate::bounds::{Bounded, RATE_MAX, check_bounds, out_of_range};
-use crate::directory::read_directory;
+use crate::block::{Block, read_block};
+use crate::bounds::{Bounded, RATE_MAX, check_bounds};
+use crate::fields::{RecordWords, read_fields};
 use crate::kinds::Kind;
-use crate::numbers::read_numbers;
-use crate::positions::read_positions;
-use crate::records::{Record, Records, Starts};
+use crate::records::Records;
 use moves::Parameters;
-use words::{AxisId, Fault};
+use words::{AxisId, ByAxis, Fault, Question};
 
 // The reach of each axis's drive, within which its limits have to lie.
-#[derive(Clone, Copy)]
-pub struct Reaches {
-    pub one: i32,
-    pub two: i32,
-    pub three: i32,
+pub type Reaches = ByAxis<i32>;
+
+#[derive(Drop)]
+struct ParameterBlock {
+    reaches: Reaches,
 }
 
-impl Reaches {
-    fn of(self, axis: AxisId) -> i32
-        ensures { result ≡ reach_of self (Some axis) }
-    {
-        match axis {
-            AxisId::One => self.one,
-            AxisId::Two => self.two,
-            AxisId::Three => self.three,
+impl Block for ParameterBlock {
+    type Written = Parameters;
+    type Value = Parameters;
+
+    const KIND: Kind = Kind::Parameters;
+
+    ghost KIND = { kind.Parameters };
+
+    ghost digits = { parameter_digits };
+
+    ghost written = { parameters_written };
+
+    ghost ranges = { λ block axis. parameter_ranges (reach_of block.reaches axis) axis };
+
+    ghost value = { λ parameters. parameters };
+
+    fn read(record: RecordWords) -> Result<Parameters, Fault> {
+        let positions = read_fields(record, 1)?;
+        let numbers = read_fields(record, 9)?;
+        Ok(assemble(positions, numbers))
+    }
+
+    fn check(
+        &self,
+        axis: AxisId,
+        start: usize,
+        parameters: Parameters,
+    ) -> Result<Parameters, Fault> {
+        if !relations_hold(parameters, *self.reaches.get(axis)) {
+            return Err(Question::Range.refused(axis, start));
         }
+        check_bounds(axis, start, 9, &bounded_rates(parameters))?;
+        Ok(parameters)
     }
 }
 
-// What a block sets for its axes, or its first no. The digits of all records are asked before any relation or range.
+// What a block sets for its axes, or its first no.
 pub fn read_parameters(words: &[u16], reaches: Reaches) -> Result<Records<Parameters>, Fault>
     ensures { result ≡ answer (parameter_questions reaches words.now) (parameters words.now) }
 {
-    let starts = read_directory(words, Kind::Parameters)?;
-    let written = read_all(words, starts)?;
-    check_all(written, reaches)
-}
-
-// The values as they are written, once their digits are right.
-fn read_all(words: &[u16], starts: Starts) -> Result<Records<Parameters>, Fault>
-    requires { StartsInside 17 words.now starts }
-    ensures value { result ≡ answer (by_axis (parameter_digits words.now) starts) (records_from (parameters_written words.now) starts) }
-    ensures room { IfOk result Rooms }
-{
-    Ok(Records {
-        one: read_record(words, AxisId::One, starts.one)?,
-        two: read_record(words, AxisId::Two, starts.two)?,
-        three: read_record(words, AxisId::Three, starts.three)?,
-    })
-}
-
-fn read_record(
-    words: &[u16],
-    axis: AxisId,
-    start: Option<usize>,
-) -> Result<Option<Record<Parameters>>, Fault>
-    requires { Inside 17 words.now start }
-    ensures value { result ≡ answer (at_start (parameter_digits words.now (Some axis)) start) (record_from (parameters_written words.now) start) }
-    ensures room { IfOk result Room }
-{
-    let Some(word) = start else {
-        return Ok(None);
-    };
-    let value = read_parameters_at(words, axis, word)?;
-    Ok(Some(Record { word, value }))
-}
-
-// The same values, once their relations hold and they are in range.
-fn check_all(written: Records<Parameters>, reaches: Reaches) -> Result<Records<Parameters>, Fault>
-    requires { Rooms written }
-    ensures { result ≡ answer (by_record (λ a. parameter_ranges (reach_of reaches a) a) written) written }
-{
-    Ok(Records {
-        one: check_record(AxisId::One, written.one, reaches)?,
-        two: check_record(AxisId::Two, written.two, reaches)?,
-        three: check_record(AxisId::Three, written.three, reaches)?,
-    })
-}
-
-fn check_record(
-    axis: AxisId,
-    written: Option<Record<Parameters>>,
-    reaches: Reaches,
-) -> Result<Option<Record<Parameters>>, Fault>
-    requires { Room written }
-    ensures { result ≡ answer (of_record (parameter_ranges (reach_of reaches (Some axis)) (Some axis)) written) written }
-{
-    if let Some(record) = written {
-        check_parameters(axis, record.word, record.value, reaches.of(axis))?;
-    }
-    Ok(written)
-}
-
-fn read_parameters_at(words: &[u16], axis: AxisId, start: usize) -> Result<Parameters, Fault>
-    requires { start + 17 ≤ length words.now }
-    ensures { result ≡ answer (parameter_digits words.now (Some axis) start) (parameters_written words.now start) }
-{
-    let positions = read_positions::<4>(words, axis, start, 1)?;
-    let numbers = read_numbers::<8>(words, axis, start, 9)?;
-    Ok(assemble(positions, numbers))
+    read_block(&ParameterBlock { reaches }, words)
 }
 
 // The values of a record, in the order of its words.
@@ -165,22 +121,6 @@ fn relations_hold(parameters: Parameters, reach: i32) -> bool
 {
     let limits = home_between(parameters) && limits_within(parameters, reach);
     limits && rates_right(parameters)
-}
-
-// Whether the relations of a record hold, and then its values are in range.
-fn check_parameters(
-    axis: AxisId,
-    start: usize,
-    parameters: Parameters,
-    reach: i32,
-) -> Result<(), Fault>
-    requires { start + 17 < 2 ^ 64 }
-    ensures { result ≡ answer (parameter_ranges reach (Some axis) parameters start) tt }
-{
-    if !relations_hold(parameters, reach) {
-        return Err(out_of_range(axis, start));
-    }
-    check_bounds(axis, start, 9, &bounded_rates(parameters))
 }
 
 // The values from word 9 on that have a range.

@@ -1,0 +1,99 @@
+// The fields of a record: values of one or more words each, one behind the other.
+ghost use Rattle.std.specs.Prelude.{◌≡◌, ℕ, ◌+◌, ◌*◌, ◌<◌, ◌≤◌, List, Option, length, Some};
+ghost use Rattle.words.specs.declared.axis.AxisId.{AxisId};
+ghost use Rattle.blocks.specs.Directory.{word_at};
+ghost use Rattle.blocks.specs.Fields.{fields_digits, fields_from};
+ghost use Rattle.blocks.specs.Numbers.{number, number_digits};
+ghost use Rattle.blocks.specs.Positions.{position, position_digits};
+ghost use Rattle.blocks.specs.Questions.{Asked, answer};
+
+use words::{AxisWords, Fault, Word, WordPair};
+
+// The words of a record: those of its block, read for its axis, from `start` on.
+#[derive(Clone, Copy)]
+pub(crate) struct RecordWords<'a> {
+    pub block: AxisWords<'a>,
+    pub start: usize,
+}
+
+impl RecordWords<'_> {
+    // The word of that index in the record.
+    pub fn word(self, index: usize) -> Word
+        requires { self.start + index < length self.block.words.now }
+        ensures { result ≡ record { bits = word_at self.entry.block.words.now (self.entry.start + index); axis = self.entry.block.axis; index = self.entry.start + index } }
+    {
+        self.block.word(self.start + index).unwrap()
+    }
+
+    // That word and the next one.
+    pub fn pair(self, index: usize) -> WordPair
+        requires { self.start + index + 1 < length self.block.words.now }
+        ensures first { result.first ≡ record { bits = word_at self.entry.block.words.now (self.entry.start + index); axis = self.entry.block.axis; index = self.entry.start + index } }
+        ensures second { result.second ≡ record { bits = word_at self.entry.block.words.now (self.entry.start + index + 1); axis = self.entry.block.axis; index = self.entry.start + index + 1 } }
+    {
+        self.block.pair(self.start + index).unwrap()
+    }
+}
+
+// A value that one or more words of a record spell.
+pub(crate) trait Field: Copy + Default {
+    // How many words.
+    const WORDS: usize;
+
+    ghost WORDS: { ℕ };
+
+    // The questions about the digits of the words from an index of the record on.
+    ghost digits: { List ℕ → Option AxisId → ℕ → ℕ → List Asked };
+
+    // The value that these words spell.
+    ghost value: { List ℕ → ℕ → ℕ → Self };
+
+    fn read(record: RecordWords, index: usize) -> Result<Self, Fault>
+        requires { record.start + (index + WORDS) ≤ length record.block.words.now }
+        ensures { result ≡ answer (digits record.entry.block.words.now (Some record.entry.block.axis) record.entry.start index) (value record.entry.block.words.now record.entry.start index) };
+}
+
+// A number of four digits.
+impl Field for u16 {
+    const WORDS: usize = 1;
+
+    ghost WORDS = { 1 };
+
+    ghost digits = { λ ws axis at i. number_digits ws axis at i 1 };
+
+    ghost value = { number };
+
+    fn read(record: RecordWords, index: usize) -> Result<u16, Fault> {
+        record.word(index).four_digits()
+    }
+}
+
+// A position that has no incremental mark.
+impl Field for i32 {
+    const WORDS: usize = 2;
+
+    ghost WORDS = { 2 };
+
+    ghost digits = { λ ws axis at i. position_digits ws axis at i 1 };
+
+    ghost value = { position };
+
+    fn read(record: RecordWords, index: usize) -> Result<i32, Fault> {
+        record.pair(index).read_position()
+    }
+}
+
+// The N fields whose words run on from the index `first` of the record.
+pub(crate) fn read_fields<T: Field, const N: usize>(
+    record: RecordWords,
+    first: usize,
+) -> Result<[T; N], Fault>
+    requires { record.start + (first + N * T.WORDS) ≤ length record.block.words.now }
+    ensures { result ≡ answer (fields_digits (T.digits record.entry.block.words.now (Some record.entry.block.axis) record.entry.start) T.WORDS first N) (fields_from (T.value record.entry.block.words.now record.entry.start) T.WORDS first N) }
+{
+    let mut fields = [T::default(); N];
+    for (i, field) in fields.iter_mut().enumerate() {
+        *field = T::read(record, first + i * T::WORDS)?;
+    }
+    Ok(fields)
+}
