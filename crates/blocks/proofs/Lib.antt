@@ -3,4 +3,3 @@ pub mod Order
 pub mod Starts
 pub mod Passes
 pub mod FieldsRead
-pub mod Ranges

@@ -104,6 +104,13 @@ module _ {X Y : Type 0} (r : Option AxisId → X → ℕ → List Asked) (w : �
       let e3 = value_at s.three in
       cc
 
+-- the answer of a directory, with the kind written in another way
+pub at_kind :
+    (k m : Kind) (ws : List ℕ) (a : Result (ByAxis (Option ℕ)) Fault) → m ≡ k
+    → a ≡ answer (directory_questions m ws) (starts_by_axis (record_length m) ws)
+    → a ≡ answer (directory_questions k ws) (starts_by_axis (record_length k) ws)
+at_kind k m ws a e h = h ∙ ap (λ n. answer (directory_questions n ws) (starts_by_axis (record_length n) ws)) e
+
 -- The answer of a block: its directory, then the digits of its records, then their ranges.
 module _ {X Y : Type 0} (k : Kind) (d : List ℕ → Option AxisId → ℕ → List Asked) (w : List ℕ → ℕ → X) (r : Option AxisId → X → ℕ → List Asked) (h : X → Y) (ws : List ℕ) where
   -- the directory has the first no

@@ -1,5 +1,7 @@
 -- Laws of answers: one list of questions behind another.
 use Rattle.std.proofs.Common.{◌≡◌, Bool, true, false, cond, List, [], ◌∷◌, ◌++◌, Some, Ok, Err, Option, Result, sym, refl, ap, ◌∙◌}
+use Rattle.std.specs.Result.{IsErrAnd}
+use Rattle.std.proofs.lemmas.Result.{err_from_is_err_and}
 use Rattle.words.specs.declared.fault.Fault.{Fault}
 use Rattle.blocks.specs.Questions.{Asked, refusal, first_no, answer, else_ask, by_first_no}
 
@@ -66,21 +68,6 @@ pub passed_tail : {X : Type 0} (xs ys : List Asked) (a v : X) → Ok v ≡ answe
 passed_tail [] ys a v e = e
 passed_tail (x ∷ xs) ys a v e = passed_tail xs ys a v (ok_through v (refusal x) (answer (xs ++ ys) a) x.yes e).1
 
--- a value that was read goes into what comes next
-pub go_on : {X Y : Type 0} (t : Bool) (v x : X) (f g : Fault) (rest : X → Result Y Fault) → Ok v ≡ cond t (Ok x) (Err f) → rest v ≡ cond t (rest x) (Err g)
-go_on true v x f g rest e = let same : v ≡ x = cc in ap rest same
-go_on false v x f g rest e = let z : ◌≡◌ {A = Bool} true false = cc in cc
-
--- a word that was refused ends it
-pub halt : {X Y : Type 0} (t : Bool) (x : X) (f e : Fault) (rest : Result Y Fault) → Err e ≡ cond t (Ok x) (Err f) → Err e ≡ cond t rest (Err f)
-halt true x f e rest h = let z : ◌≡◌ {A = Bool} true false = cc in cc
-halt false x f e rest h = cc
-
--- the same for two words
-pub go_on_pair : {X Y : Type 0} (t u : Bool) (v x : X) (f g : Fault) (rest : X → Result Y Fault) → Ok v ≡ cond t (cond u (Ok x) (Err g)) (Err f) → rest v ≡ cond t (cond u (rest x) (Err g)) (Err f)
-go_on_pair true u v x f g rest e = go_on u v x g g rest e
-go_on_pair false u v x f g rest e = let z : ◌≡◌ {A = Bool} true false = cc in cc
-
-pub halt_pair : {X Y : Type 0} (t u : Bool) (x : X) (f g e : Fault) (rest : Result Y Fault) → Err e ≡ cond t (cond u (Ok x) (Err g)) (Err f) → Err e ≡ cond t (cond u rest (Err g)) (Err f)
-halt_pair true u x f g e rest h = halt u x g e rest h
-halt_pair false u x f g e rest h = cc
+-- an error that a `?` passes on
+pub err_passed : {X : Type 0} (r a : Result X Fault) (e : Fault) → IsErrAnd r (λ y. y ≡ e) → Err e ≡ a → r ≡ a
+err_passed r a e h k = let p = err_from_is_err_and r h in p.1 ∙ ap Err p.2 ∙ k

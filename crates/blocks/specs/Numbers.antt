@@ -10,12 +10,7 @@ use Rattle.blocks.specs.Questions.{Asked, ask}
 abbrev pub number : List ℕ → ℕ → ℕ → ℕ
 number ws at i = four_digits (word_at ws (at + i))
 
--- the numbers of words i, i + 1 and so on, n of them
-abbrev pub numbers_from : List ℕ → ℕ → ℕ → ℕ → List ℕ
-numbers_from ws at i zero = []
-numbers_from ws at i (suc n) = number ws at i ∷ numbers_from ws at (i + 1) n
-
--- the digits of these words in turn
+-- the digits of words i, i + 1 and so on, n of them, in turn
 abbrev pub number_digits : List ℕ → Option AxisId → ℕ → ℕ → ℕ → List Asked
 number_digits ws axis at i zero = []
 number_digits ws axis at i (suc n) =

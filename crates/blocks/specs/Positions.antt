@@ -10,12 +10,7 @@ use Rattle.blocks.specs.Questions.{Asked, ask}
 abbrev pub position : List ℕ → ℕ → ℕ → ℤ
 position ws at i = position_value (word_at ws (at + i)) (word_at ws (at + i + 1))
 
--- n positions, the first of them at word i
-abbrev pub positions_from : List ℕ → ℕ → ℕ → ℕ → List ℤ
-positions_from ws at i zero = []
-positions_from ws at i (suc n) = position ws at i ∷ positions_from ws at (i + 2) n
-
--- their digits and fixed bits, word after word
+-- the digits and fixed bits of n positions, the first of them at word i, word after word
 abbrev pub position_digits : List ℕ → Option AxisId → ℕ → ℕ → ℕ → List Asked
 position_digits ws axis at i zero = []
 position_digits ws axis at i (suc n) =

@@ -37,16 +37,13 @@ pub(crate) trait Block {
     // What it says.
     ghost value: { Self.Written → Self.Value };
 
-    fn read(record: RecordWords) -> Result<Self::Written, Fault>
-        requires { record.start + record_length KIND ≤ length record.block.words.now }
-        ensures { result ≡ answer (digits record.entry.block.words.now (Some record.entry.block.axis) record.entry.start) (written record.entry.block.words.now record.entry.start) };
+    // What the words of a record spell, once their digits are right.
+    fn read(words: RecordWords) -> Result<Self::Written, Fault>
+        requires { words.start + record_length KIND ≤ length words.block.words.now }
+        ensures { result ≡ answer (digits words.entry.block.words.now (Some words.entry.block.axis) words.entry.start) (written words.entry.block.words.now words.entry.start) };
 
-    fn check(
-        &self,
-        axis: AxisId,
-        start: usize,
-        values: Self::Written,
-    ) -> Result<Self::Value, Fault>
+    // What the record at `start` says, once the values that it spells are in range.
+    fn check(&self, axis: AxisId, start: usize, values: Self::Written) -> Result<Self::Value, Fault>
         requires { start + 17 < 2 ^ 64 }
         ensures { result ≡ answer (ranges self.now (Some axis) values start) (value values) };
 }
@@ -61,6 +58,7 @@ pub(crate) fn read_block<B: Block>(block: &B, words: &[u16]) -> Result<Records<B
 }
 
 // What the words of the records spell, once their digits are right.
+#[tactic(auto, using(crate::proofs::Passes::start_no, crate::proofs::Passes::start_ok))]
 fn read_records<B: Block>(words: &[u16], starts: Starts) -> Result<Records<B::Written>, Fault>
     requires { StartsInside (record_length B.KIND) words.now starts }
     ensures { result ≡ answer (by_axis (B.digits words.now) starts) (records_from (B.written words.now) starts) }
@@ -83,6 +81,7 @@ fn read_records<B: Block>(words: &[u16], starts: Starts) -> Result<Records<B::Wr
 }
 
 // What the records say, once what is written is in range.
+#[tactic(auto, using(crate::proofs::Passes::record_no, crate::proofs::Passes::record_ok))]
 fn check_records<B: Block>(
     block: &B,
     written: Records<B::Written>,
@@ -98,9 +97,11 @@ fn check_records<B: Block>(
             let Some(record) = written else {
                 return Ok(None);
             };
-            let word = record.word;
-            let value = block.check(axis, word, record.value)?;
-            Ok(Some(Record { word, value }))
+            let value = block.check(axis, record.word, record.value)?;
+            Ok(Some(Record {
+                word: record.word,
+                value,
+            }))
         },
     )
 }

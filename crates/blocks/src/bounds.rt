@@ -26,7 +26,7 @@ pub(crate) fn check_bounds(
     ensures { result ≡ answer (ranges_from (Some axis) start first values.now) tt }
 {
     for (i, bounded) in values.iter().enumerate() {
-        if bounded.value < 1 || bounded.value > bounded.most {
+        if !(1..=bounded.most).contains(&bounded.value) {
             return Err(Question::Range.refused(axis, start + (first + i)));
         }
     }

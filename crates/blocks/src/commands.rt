@@ -31,24 +31,20 @@ impl TryFrom<Written> for Command {
     ghost try_from_gives = { λ written r. r ≡ command_of_written written };
 
     fn try_from(written: Written) -> Result<Command, OutOfRange> {
-        let code = written.code;
-        if code < 1 || code > 8 {
-            return Err(OutOfRange::Code);
-        }
+        let Written { code, argument } = written;
         let most = if code == 8 { 127 } else { 0 };
-        if written.argument > most {
-            return Err(OutOfRange::Argument);
+        match code {
+            1..=8 if argument > most => Err(OutOfRange::Argument),
+            1 => Ok(Command::Begin),
+            2 => Ok(Command::Start),
+            3 => Ok(Command::SlideStop),
+            4 => Ok(Command::SearchHome),
+            5 => Ok(Command::JogForward),
+            6 => Ok(Command::JogReverse),
+            7 => Ok(Command::Reset),
+            8 => Ok(Command::Override(argument as u8)),
+            _ => Err(OutOfRange::Code),
         }
-        Ok(match code {
-            1 => Command::Begin,
-            2 => Command::Start,
-            3 => Command::SlideStop,
-            4 => Command::SearchHome,
-            5 => Command::JogForward,
-            6 => Command::JogReverse,
-            7 => Command::Reset,
-            _ => Command::Override(written.argument as u8),
-        })
     }
 }
 
@@ -57,6 +53,7 @@ struct CommandBlock;
 
 impl Block for CommandBlock {
     type Written = Written;
+
     type Value = Command;
 
     const KIND: Kind = Kind::Commands;
@@ -71,17 +68,16 @@ impl Block for CommandBlock {
 
     ghost value = { written_command };
 
-    fn read(record: RecordWords) -> Result<Written, Fault> {
-        let numbers = read_fields::<u16, 2>(record, 1)?;
-        Ok(Written {
-            code: numbers[0],
-            argument: numbers[1],
-        })
+    fn read(words: RecordWords) -> Result<Written, Fault> {
+        let [code, argument] = read_fields::<u16, 2>(words, 1)?;
+        Ok(Written { code, argument })
     }
 
     fn check(&self, axis: AxisId, start: usize, written: Written) -> Result<Command, Fault> {
-        Command::try_from(written)
-            .map_err(|wrong| Question::Range.refused(axis, start + wrong as usize))
+        Command::try_from(written).map_err(|wrong| Question::Range.refused(
+            axis,
+            start + wrong as usize,
+        ))
     }
 }
 

@@ -1,7 +1,8 @@
 // The directory of a block, read.
-ghost use Rattle.std.specs.Prelude.{◌≡◌, ◌<◌, ◌≤◌, length, IfOk, None, OnOk};
+ghost use Rattle.std.specs.Prelude.{◌≡◌, ◌+◌, ◌*◌, ◌<◌, ◌≤◌, length, IfOk, None, OnOk};
+ghost use Rattle.words.specs.Faults.{axis_number};
 ghost use Rattle.blocks.specs.Questions.{answer};
-ghost use Rattle.blocks.specs.Directory.{record_count, records_start, count_questions, pair_questions, axis_questions, block_end, starts, start_of, starts_by_axis, start_questions, directory_questions, record_length, Inside, StartsInside};
+ghost use Rattle.blocks.specs.Directory.{record_count, records_start, count_questions, pair_questions, axis_questions, block_end, starts, start_of, starts_by_axis, directory_questions, record_length, Inside, StartsInside};
 
 use crate::kinds::Kind;
 use crate::records::Starts;
@@ -27,7 +28,7 @@ fn read_count(words: &[u16], kind: Kind) -> Result<usize, Fault>
         return Err(unnamed(Question::Kind, 0));
     }
     let count = usize::from(words[1]);
-    if count < 1 || count > 3 {
+    if !(1..=3).contains(&count) {
         return Err(unnamed(Question::Directory, 1));
     }
     if words.len() < 2 + 2 * count {
@@ -36,83 +37,100 @@ fn read_count(words: &[u16], kind: Kind) -> Result<usize, Fault>
     Ok(count)
 }
 
-// Whether the pairs of the directory and the end of the block are right.
-fn check_pairs(words: &[u16], count: usize, record_length: usize) -> Result<(), Fault>
-    requires { (count ≡ record_count words.now) × ((count ≤ 3) × ((record_length ≤ 17) × (records_start count ≤ length words.now))) }
-    ensures value { result ≡ answer (pair_questions record_length words.now) tt }
-    ensures ends { OnOk result (length words.now ≡ block_end record_length words.now) }
-{
-    let mut start = 2 + 2 * count;
-    for i in 0..count {
-        let pair = 2 + 2 * i;
-        if usize::from(words[pair]) != start {
-            return Err(unnamed(Question::Pairs, pair));
-        }
-        if usize::from(words[pair + 1]) != record_length {
-            return Err(unnamed(Question::Pairs, pair + 1));
-        }
-        start += record_length;
-    }
-    if words.len() != start {
-        return Err(unnamed(Question::Pairs, 0));
-    }
-    Ok(())
+// The directory of a block that has as many records as `count` says.
+#[derive(Clone, Copy)]
+struct Directory<'a> {
+    words: &'a [u16],
+    count: usize,
+    record_length: usize,
+    ghost counted: { count ≡ record_count words.now },
+    ghost few: { count ≤ 3 },
+    ghost there: { records_start count ≤ length words.now },
+    ghost not_empty: { 0 < record_length },
+    ghost short: { record_length ≤ 17 },
 }
 
-// Whether the axis words are 1 to 3 and rise.
-fn check_axes(words: &[u16], count: usize, record_length: usize) -> Result<(), Fault>
-    requires { (count ≡ record_count words.now) × ((count ≤ 3) × ((0 < record_length) × (length words.now ≡ block_end record_length words.now))) }
-    ensures { result ≡ answer (axis_questions record_length words.now) tt }
-{
-    let mut start = 2 + 2 * count;
-    let mut above = 0;
-    for _record in 0..count {
-        let axis = words[start];
-        if axis <= above || axis > 3 {
-            return Err(unnamed(Question::Axis, start));
-        }
-        above = axis;
-        start += record_length;
+impl Directory<'_> {
+    // Where the record of a number, counted from 0, starts; for the number of records, where the last of them ends.
+    fn record_start(self, number: usize) -> usize
+        requires { number ≤ self.count }
+        ensures { result ≡ records_start self.entry.count + number * self.entry.record_length }
+    {
+        2 + 2 * self.count + number * self.record_length
     }
-    Ok(())
-}
 
-// Where the record starts whose axis word is `number`.
-fn start_of(words: &[u16], count: usize, record_length: usize, number: u8) -> Option<usize>
-    requires { (count ≡ record_count words.now) × ((count ≤ 3) × ((0 < record_length) × (length words.now ≡ block_end record_length words.now))) }
-    ensures value { result ≡ start_of words.now number (starts record_length words.now) }
-    ensures inside { Inside record_length words.now result }
-{
-    let mut start = 2 + 2 * count;
-    for _record in 0..count {
-        if words[start] == u16::from(number) {
-            return Some(start);
+    // Whether the pairs of the directory and the end of the block are right.
+    #[tactic(auto, using(crate::proofs::Starts::pairs_step, crate::proofs::Starts::pairs_end, crate::proofs::Starts::block_end_is))]
+    fn check_pairs(self) -> Result<(), Fault>
+        ensures value { result ≡ answer (pair_questions self.entry.record_length self.entry.words.now) tt }
+        ensures ends { OnOk result (length self.entry.words.now ≡ block_end self.entry.record_length self.entry.words.now) }
+    {
+        for i in 0..self.count {
+            let pair = 2 + 2 * i;
+            if usize::from(self.words[pair]) != self.record_start(i) {
+                return Err(unnamed(Question::Pairs, pair));
+            }
+            if usize::from(self.words[pair + 1]) != self.record_length {
+                return Err(unnamed(Question::Pairs, pair + 1));
+            }
         }
-        start += record_length;
+        if self.words.len() != self.record_start(self.count) {
+            return Err(unnamed(Question::Pairs, 0));
+        }
+        Ok(())
     }
-    None
+
+    // Whether the axis words are 1 to 3 and rise.
+    #[tactic(auto, using(crate::proofs::Starts::axes_step, crate::proofs::Starts::inside_block))]
+    fn check_axes(self) -> Result<(), Fault>
+        requires { length self.words.now ≡ block_end self.record_length self.words.now }
+        ensures { result ≡ answer (axis_questions self.entry.record_length self.entry.words.now) tt }
+    {
+        let mut above = 0;
+        for i in 0..self.count {
+            let start = self.record_start(i);
+            let axis = self.words[start];
+            if axis <= above || axis > 3 {
+                return Err(unnamed(Question::Axis, start));
+            }
+            above = axis;
+        }
+        Ok(())
+    }
+
+    // Where the record of an axis starts.
+    #[tactic(auto, using(crate::proofs::Starts::start_of_step, crate::proofs::Starts::inside_block))]
+    fn start_of(self, axis: AxisId) -> Option<usize>
+        requires { length self.words.now ≡ block_end self.record_length self.words.now }
+        ensures value { result ≡ start_of self.entry.words.now (axis_number axis) (starts self.entry.record_length self.entry.words.now) }
+        ensures inside { Inside self.entry.record_length self.entry.words.now result }
+    {
+        // Tried: find over the starts; the proof that its closure looks inside the words did not close.
+        for i in 0..self.count {
+            let start = self.record_start(i);
+            if self.words[start] == u16::from(axis.number()) {
+                return Some(start);
+            }
+        }
+        None
+    }
 }
 
-// Where the record of each axis starts, once pairs, end and axis words are right.
-fn read_starts(words: &[u16], count: usize, record_length: usize) -> Result<Starts, Fault>
-    requires { (count ≡ record_count words.now) × ((count ≤ 3) × ((0 < record_length) × ((record_length ≤ 17) × (records_start count ≤ length words.now)))) }
-    ensures value { result ≡ answer (start_questions record_length words.now) (starts_by_axis record_length words.now) }
-    ensures inside { IfOk result (StartsInside record_length words.now) }
-{
-    check_pairs(words, count, record_length)?;
-    check_axes(words, count, record_length)?;
-    Ok(ByAxis {
-        one: start_of(words, count, record_length, AxisId::One.number()),
-        two: start_of(words, count, record_length, AxisId::Two.number()),
-        three: start_of(words, count, record_length, AxisId::Three.number()),
-    })
-}
-
-// Where the record of each axis starts in a block of the kind.
+// Where the record of each axis starts in a block of the kind, once pairs, end and axis words are right.
 pub(crate) fn read_directory(words: &[u16], kind: Kind) -> Result<Starts, Fault>
     ensures value { result ≡ answer (directory_questions kind words.now) (starts_by_axis (record_length kind) words.now) }
     ensures inside { IfOk result (StartsInside (record_length kind) words.now) }
 {
-    let count = read_count(words, kind)?;
-    read_starts(words, count, kind.record_length())
+    let directory = Directory {
+        words,
+        count: read_count(words, kind)?,
+        record_length: kind.record_length(),
+    };
+    directory.check_pairs()?;
+    directory.check_axes()?;
+    Ok(ByAxis {
+        one: directory.start_of(AxisId::One),
+        two: directory.start_of(AxisId::Two),
+        three: directory.start_of(AxisId::Three),
+    })
 }

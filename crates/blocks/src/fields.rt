@@ -1,8 +1,7 @@
 // The fields of a record: values of one or more words each, one behind the other.
 ghost use Rattle.std.specs.Prelude.{◌≡◌, ℕ, ◌+◌, ◌*◌, ◌<◌, ◌≤◌, List, Option, length, Some};
 ghost use Rattle.words.specs.declared.axis.AxisId.{AxisId};
-ghost use Rattle.blocks.specs.Directory.{word_at};
-ghost use Rattle.blocks.specs.Fields.{fields_digits, fields_from};
+ghost use Rattle.blocks.specs.Fields.{word_for, fields_digits, fields_from};
 ghost use Rattle.blocks.specs.Numbers.{number, number_digits};
 ghost use Rattle.blocks.specs.Positions.{position, position_digits};
 ghost use Rattle.blocks.specs.Questions.{Asked, answer};
@@ -18,18 +17,17 @@ pub(crate) struct RecordWords<'a> {
 
 impl RecordWords<'_> {
     // The word of that index in the record.
-    pub fn word(self, index: usize) -> Word
+    pub(crate) fn word(self, index: usize) -> Word
         requires { self.start + index < length self.block.words.now }
-        ensures { result ≡ record { bits = word_at self.entry.block.words.now (self.entry.start + index); axis = self.entry.block.axis; index = self.entry.start + index } }
+        ensures { result ≡ word_for self.entry.block.words.now self.entry.block.axis (self.entry.start + index) }
     {
         self.block.word(self.start + index).unwrap()
     }
 
     // That word and the next one.
-    pub fn pair(self, index: usize) -> WordPair
+    pub(crate) fn pair(self, index: usize) -> WordPair
         requires { self.start + index + 1 < length self.block.words.now }
-        ensures first { result.first ≡ record { bits = word_at self.entry.block.words.now (self.entry.start + index); axis = self.entry.block.axis; index = self.entry.start + index } }
-        ensures second { result.second ≡ record { bits = word_at self.entry.block.words.now (self.entry.start + index + 1); axis = self.entry.block.axis; index = self.entry.start + index + 1 } }
+        ensures { result ≡ record { first = word_for self.entry.block.words.now self.entry.block.axis (self.entry.start + index); second = word_for self.entry.block.words.now self.entry.block.axis (self.entry.start + index + 1) } }
     {
         self.block.pair(self.start + index).unwrap()
     }
@@ -48,9 +46,9 @@ pub(crate) trait Field: Copy + Default {
     // The value that these words spell.
     ghost value: { List ℕ → ℕ → ℕ → Self };
 
-    fn read(record: RecordWords, index: usize) -> Result<Self, Fault>
-        requires { record.start + (index + WORDS) ≤ length record.block.words.now }
-        ensures { result ≡ answer (digits record.entry.block.words.now (Some record.entry.block.axis) record.entry.start index) (value record.entry.block.words.now record.entry.start index) };
+    fn read(words: RecordWords, index: usize) -> Result<Self, Fault>
+        requires { words.start + (index + WORDS) ≤ length words.block.words.now }
+        ensures { result ≡ answer (digits words.entry.block.words.now (Some words.entry.block.axis) words.entry.start index) (value words.entry.block.words.now words.entry.start index) };
 }
 
 // A number of four digits.
@@ -63,8 +61,8 @@ impl Field for u16 {
 
     ghost value = { number };
 
-    fn read(record: RecordWords, index: usize) -> Result<u16, Fault> {
-        record.word(index).four_digits()
+    fn read(words: RecordWords, index: usize) -> Result<u16, Fault> {
+        words.word(index).four_digits()
     }
 }
 
@@ -78,22 +76,23 @@ impl Field for i32 {
 
     ghost value = { position };
 
-    fn read(record: RecordWords, index: usize) -> Result<i32, Fault> {
-        record.pair(index).read_position()
+    fn read(words: RecordWords, index: usize) -> Result<i32, Fault> {
+        words.pair(index).read_position()
     }
 }
 
 // The N fields whose words run on from the index `first` of the record.
+#[tactic(auto, using(crate::proofs::FieldsRead::field_no, crate::proofs::FieldsRead::field_ok))]
 pub(crate) fn read_fields<T: Field, const N: usize>(
-    record: RecordWords,
+    words: RecordWords,
     first: usize,
 ) -> Result<[T; N], Fault>
-    requires { record.start + (first + N * T.WORDS) ≤ length record.block.words.now }
-    ensures { result ≡ answer (fields_digits (T.digits record.entry.block.words.now (Some record.entry.block.axis) record.entry.start) T.WORDS first N) (fields_from (T.value record.entry.block.words.now record.entry.start) T.WORDS first N) }
+    requires { words.start + (first + N * T.WORDS) ≤ length words.block.words.now }
+    ensures { result ≡ answer (fields_digits (T.digits words.entry.block.words.now (Some words.entry.block.axis) words.entry.start) T.WORDS first N) (fields_from (T.value words.entry.block.words.now words.entry.start) T.WORDS first N) }
 {
     let mut fields = [T::default(); N];
     for (i, field) in fields.iter_mut().enumerate() {
-        *field = T::read(record, first + i * T::WORDS)?;
+        *field = T::read(words, first + i * T::WORDS)?;
     }
     Ok(fields)
 }

@@ -22,6 +22,7 @@ struct ParameterBlock {
 
 impl Block for ParameterBlock {
     type Written = Parameters;
+
     type Value = Parameters;
 
     const KIND: Kind = Kind::Parameters;
@@ -36,9 +37,9 @@ impl Block for ParameterBlock {
 
     ghost value = { λ parameters. parameters };
 
-    fn read(record: RecordWords) -> Result<Parameters, Fault> {
-        let positions = read_fields(record, 1)?;
-        let numbers = read_fields(record, 9)?;
+    fn read(words: RecordWords) -> Result<Parameters, Fault> {
+        let positions = read_fields(words, 1)?;
+        let numbers = read_fields(words, 9)?;
         Ok(assemble(positions, numbers))
     }
 
@@ -67,19 +68,30 @@ pub fn read_parameters(words: &[u16], reaches: Reaches) -> Result<Records<Parame
 fn assemble(positions: [i32; 4], numbers: [u16; 8]) -> Parameters
     ensures { result ≡ assembled positions numbers }
 {
+    let [low, high, home, offset] = positions;
+    let [
+        feedrate,
+        acceleration,
+        deceleration,
+        jog_rate,
+        home_rate,
+        creep_rate,
+        band,
+        following_limit,
+    ] = numbers;
     Parameters {
-        low: positions[0],
-        high: positions[1],
-        home: positions[2],
-        offset: positions[3],
-        feedrate: numbers[0],
-        acceleration: numbers[1],
-        deceleration: numbers[2],
-        jog_rate: numbers[3],
-        home_rate: numbers[4],
-        creep_rate: numbers[5],
-        band: numbers[6],
-        following_limit: numbers[7],
+        low,
+        high,
+        home,
+        offset,
+        feedrate,
+        acceleration,
+        deceleration,
+        jog_rate,
+        home_rate,
+        creep_rate,
+        band,
+        following_limit,
     }
 }
 

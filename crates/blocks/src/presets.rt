@@ -15,6 +15,7 @@ struct PresetBlock;
 
 impl Block for PresetBlock {
     type Written = i32;
+
     type Value = i32;
 
     const KIND: Kind = Kind::Presets;
@@ -29,8 +30,8 @@ impl Block for PresetBlock {
 
     ghost value = { λ counts. counts };
 
-    fn read(record: RecordWords) -> Result<i32, Fault> {
-        i32::read(record, 1)
+    fn read(words: RecordWords) -> Result<i32, Fault> {
+        i32::read(words, 1)
     }
 
     // Any position is in range.

@@ -1,25 +1,21 @@
-use Rattle.std.proofs.Common.{◌≡◌, ◌+◌, ◌^◌, ◌<◌, length, Ok, Err, sym, ap, ◌∙◌, rules}
-use Rattle.std.proofs.lemmas.Result.{err_from_is_err_and}
-use Rattle.blocks.specs.Directory.{record_length, directory_questions, starts_by_axis}
-use Rattle.blocks.specs.Questions.{answer}
+use Rattle.std.proofs.Common.{◌+◌, ◌^◌, ◌<◌, length, Ok, Err, ◌∙◌, rules}
+use Rattle.blocks.specs.Directory.{record_length}
 use Rattle.blocks.specs.Records.{records_from, by_axis}
-use Rattle.blocks.proofs.Passes.{directory_no, digits_no, ranges_answer, rooms_from}
-use Rattle.blocks.proofs.Questions.{passed_value}
+use Rattle.blocks.proofs.Passes.{at_kind, directory_no, digits_no, ranges_answer, rooms_from}
+use Rattle.blocks.proofs.Questions.{passed_value, err_passed}
 use Rattle.blocks.proofs.block.read_block.Goals as goal
 
 pub returns-in_err-starts : goal.returns-in_err-starts
 returns-in_err-starts g c =
     let ws = c.args.words.now in
-    let p = err_from_is_err_and c.from_residual.result c.from_residual.ensures.1 in
-    let s = c.in_err-starts.ensures.value ∙ ap (λ k. answer (directory_questions k ws) (starts_by_axis (record_length k) ws)) c.KIND.ensures in
-    p.1 ∙ ap Err p.2 ∙ directory_no g.B.Block.KIND g.B.Block.digits g.B.Block.written (g.B.Block.ranges c.args.block.now) g.B.Block.value ws _ s
+    err_passed _ _ _ c.from_residual.ensures.1
+    (directory_no g.B.Block.KIND g.B.Block.digits g.B.Block.written (g.B.Block.ranges c.args.block.now) g.B.Block.value ws _ (at_kind g.B.Block.KIND _ ws (Err _) c.KIND.ensures c.in_err-starts.ensures.value))
 
 pub returns-in_err-written : goal.returns-in_err-written
 returns-in_err-written g c =
     let ws = c.args.words.now in
-    let p = err_from_is_err_and c.from_residual-in_err-written.result c.from_residual-in_err-written.ensures.1 in
-    let s = c.in_ok-starts.ensures.value ∙ ap (λ k. answer (directory_questions k ws) (starts_by_axis (record_length k) ws)) c.KIND.ensures in
-    p.1 ∙ ap Err p.2 ∙ digits_no g.B.Block.KIND g.B.Block.digits g.B.Block.written (g.B.Block.ranges c.args.block.now) g.B.Block.value ws _ _ s c.in_err-written.ensures
+    err_passed _ _ _ c.from_residual-in_err-written.ensures.1
+    (digits_no g.B.Block.KIND g.B.Block.digits g.B.Block.written (g.B.Block.ranges c.args.block.now) g.B.Block.value ws _ _ (at_kind g.B.Block.KIND _ ws (Ok _) c.KIND.ensures c.in_ok-starts.ensures.value) c.in_err-written.ensures)
 
 pub check_records-requires : goal.check_records-requires
 check_records-requires g c =
@@ -31,6 +27,5 @@ check_records-requires g c =
 pub returns : goal.returns
 returns g c =
     let ws = c.args.words.now in
-    let s = c.in_ok-starts.ensures.value ∙ ap (λ k. answer (directory_questions k ws) (starts_by_axis (record_length k) ws)) c.KIND.ensures in
     c.check_records.ensures
-    ∙ ranges_answer g.B.Block.KIND g.B.Block.digits g.B.Block.written (g.B.Block.ranges c.args.block.now) g.B.Block.value ws _ _ s c.in_ok-written.ensures
+    ∙ ranges_answer g.B.Block.KIND g.B.Block.digits g.B.Block.written (g.B.Block.ranges c.args.block.now) g.B.Block.value ws _ _ (at_kind g.B.Block.KIND _ ws (Ok _) c.KIND.ensures c.in_ok-starts.ensures.value) c.in_ok-written.ensures

@@ -1,0 +1,12 @@
+use Rattle.std.proofs.Common.{◌≡◌, ◌+◌, ◌-◌, ◌*◌, [], ◌∷◌, ◌++◌}
+use Rattle.blocks.specs.Questions.{answer}
+use Rattle.blocks.specs.Directory.{records_start, starts_from, pairs_from, end_question, pair_questions}
+use Rattle.blocks.proofs.directory.Directory.check_pairs.Given as goal
+
+-- What is left to ask gives the answer to all.
+abbrev pub invariant-loop-i : goal.invariant-loop-i
+invariant-loop-i l =
+    let ws = l.self.words.now in
+    let len = l.self.record_length in
+    let n = l.self.count in
+    answer (pairs_from len ws l.i (starts_from len (records_start n + l.i * len) (n - l.i)) ++ end_question len ws ∷ []) (tt {0}) ≡ answer (pair_questions len ws) (tt {0})
