@@ -8,8 +8,7 @@ pub struct MoveList(pub Moveset);
 
 impl fmt::Display for MoveList {
     fn fmt<W: fmt::Write>(&self, f: &mut fmt::Formatter<W>) -> fmt::Result {
-        let moves = self.0.moves.iter().take(usize::from(self.0.count));
-        for (i, step) in moves.enumerate() {
+        for (i, step) in self.0.moves().iter().enumerate() {
             if i > 0 {
                 write!(f, "; ")?;
             }
