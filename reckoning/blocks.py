@@ -311,36 +311,46 @@ def lines():
         print("%s:%s: %s" % (call, "".join(" " + word for word in words), answer(read)))
 
 
-# The cases as a Rattle file, in tables that are not too long for the check.
+# The cases as a Rattle file, in the order of the lines.
 
-ROWS = 12
+AXES = {1: "One", 2: "Two", 3: "Three"}
+
+# The memory that the check takes grows with the square of a table's length.
+ROWS = 40
+
+
+def calls():
+    """Each case as what stands before its words in the table, and the words."""
+    for words in presets():
+        yield "Presets(", words
+    for words in commands():
+        yield "Commands(", words
+    for reaches, words in parameters():
+        limits = "FULL" if reaches == FULL else "Reaches { one: %d, two: %d, three: %d }" % reaches
+        yield "Parameters(%s, " % limits, words
+    for axis, words in movesets():
+        yield "Moveset(AxisId::%s, " % AXES[axis], words
 
 
 def table():
-    reaches = []
-    rows = {"PRESETS": [], "COMMANDS": [], "PARAMETERS": [], "MOVESETS": []}
-    rows["PRESETS"] = [(0, words) for words in presets()]
-    rows["COMMANDS"] = [(0, words) for words in commands()]
-    for reach, words in parameters():
-        if reach not in reaches:
-            reaches.append(reach)
-        rows["PARAMETERS"].append((reaches.index(reach), words))
-    rows["MOVESETS"] = list(movesets())
-    print("// Written by reckoning/blocks.py. Each case is a number, the count of its words, and its words. The number is the axis of a")
-    print("// moveset, the index of the reaches of a parameter block, and 0 otherwise.")
+    rows = list(calls())
+    parts = [rows[start : start + ROWS] for start in range(0, len(rows), ROWS)]
+    print("// Written by reckoning/blocks.py, in the order of its lines. The cases stand in parts, since the memory that the check takes grows")
+    print("// with the square of a table's length.")
+    print("use crate::case::Case;")
     print("use blocks::Reaches;")
-    print("\npub const REACHES: [Reaches; %d] = [" % len(reaches))
-    for reach in reaches:
-        print("    Reaches { one: %d, two: %d, three: %d }," % reach)
+    print("use words::AxisId;")
+    print("\npub const TABLES: [&[Case]; %d] = [" % len(parts))
+    for part in range(len(parts)):
+        print("    CASES_%d," % (part + 1))
     print("];")
-    for name, all_rows in rows.items():
-        for part in range(0, len(all_rows), ROWS):
-            some = all_rows[part : part + ROWS]
-            size = sum(2 + len(words) for _, words in some)
-            print("\npub const %s_%d: [u16; %d] = [" % (name, part // ROWS + 1, size))
-            for first, words in some:
-                print("    %d, %d,%s" % (first, len(words), "".join(" 0x%s," % word for word in words)))
-            print("];")
+    print("\n// The reach of a drive that reaches every position.")
+    print("const FULL: Reaches = Reaches { one: %d, two: %d, three: %d };" % FULL)
+    for part, some in enumerate(parts):
+        print("\nconst CASES_%d: &[Case] = &[" % (part + 1))
+        for call, words in some:
+            print("    Case::%s&[%s])," % (call, ", ".join("0x" + word for word in words)))
+        print("];")
 
 
 if __name__ == "__main__":

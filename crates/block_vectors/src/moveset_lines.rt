@@ -1,71 +1,53 @@
-// Movesets.
-use crate::records::print_fault;
-use crate::walk::{case_at, print_words};
+// The moves of a moveset, as its line shows them.
 use moves::{Action, Move, Moveset, Travel};
-use movesets::read_moveset;
-use std::io;
-use words::{AxisId, Target};
+use std::fmt;
+use words::Target;
 
-pub fn print_movesets(rt: &impl Print, table: &[u16]) -> io::Result<()> {
-    let mut at = 0;
-    while let Some(case) = case_at(table, at) {
-        let start = case.start;
-        let end = case.end;
-        let words = &table[start..end];
-        let axis = match case.number {
-            1 => AxisId::One,
-            2 => AxisId::Two,
-            _ => AxisId::Three,
-        };
-        let number = axis.number();
-        print!(rt; "moveset {number}:")?;
-        print_words(rt, words)?;
-        match read_moveset(words, axis) {
-            Ok(moveset) => print_moves(rt, &moveset)?,
-            Err(fault) => print_fault(rt, fault)?,
+#[derive(Clone, Copy)]
+pub struct MoveList(pub Moveset);
+
+impl fmt::Display for MoveList {
+    fn fmt<W: fmt::Write>(&self, f: &mut fmt::Formatter<W>) -> fmt::Result {
+        for (i, step) in self.0.moves().iter().enumerate() {
+            if i > 0 {
+                write!(f, "; ")?;
+            }
+            write!(f, "{}", MoveText(*step))?;
         }
-        at = end;
+        Ok(())
     }
-    Ok(())
 }
 
-fn print_moves(rt: &impl Print, moveset: &Moveset) -> io::Result<()> {
-    for i in 0..moveset.count {
-        if i > 0 {
-            print!(rt; "; ")?;
+#[derive(Clone, Copy)]
+struct MoveText(Move);
+
+impl fmt::Display for MoveText {
+    fn fmt<W: fmt::Write>(&self, f: &mut fmt::Formatter<W>) -> fmt::Result {
+        match self.0.action {
+            Action::Travel(travel) => write_travel(f, travel)?,
+            Action::Preset(counts) => write!(f, "preset {counts}")?,
+            Action::Dwell(time) => write!(f, "dwell {time}")?,
         }
-        if let Some(step) = moveset.get(usize::from(i)) {
-            print_move(rt, step)?;
+        if self.0.halt {
+            write!(f, " halt")?;
         }
+        if self.0.continuous {
+            write!(f, " continuous")?;
+        }
+        Ok(())
     }
-    println!(rt; "")
 }
 
-fn print_move(rt: &impl Print, step: Move) -> io::Result<()> {
-    match step.action {
-        Action::Travel(travel) => print_travel(rt, travel)?,
-        Action::Preset(counts) => print!(rt; "preset {counts}")?,
-        Action::Dwell(time) => print!(rt; "dwell {time}")?,
-    }
-    if step.halt {
-        print!(rt; " halt")?;
-    }
-    if step.continuous {
-        print!(rt; " continuous")?;
-    }
-    Ok(())
-}
-
-fn print_travel(rt: &impl Print, travel: Travel) -> io::Result<()> {
+fn write_travel<W: fmt::Write>(f: &mut fmt::Formatter<W>, travel: Travel) -> fmt::Result {
     if travel.with_offset {
-        print!(rt; "offset ")?;
+        write!(f, "offset ")?;
     }
     match travel.target {
-        Target::Absolute(counts) => print!(rt; "move to {counts}")?,
-        Target::Incremental(counts) => print!(rt; "move by {counts}")?,
+        Target::Absolute(counts) => write!(f, "move to {counts}")?,
+        Target::Incremental(counts) => write!(f, "move by {counts}")?,
     }
     if let Some(feedrate) = travel.feedrate {
-        print!(rt; " at {feedrate}")?;
+        write!(f, " at {feedrate}")?;
     }
     Ok(())
 }

@@ -1,53 +1,71 @@
 -- The moves of a block, read one after the other.
-use Rattle.std.proofs.Common.{◌≡◌, ℕ, ◌+◌, ◌-◌, ◌<◌, ◌≤◌, Bool, true, false, cond, List, ◌++◌, set, Ok, Err, Option, Result, sym, ap, ◌∙◌, arith}
+use Rattle.std.proofs.Common.{◌≡◌, ℕ, zero, suc, ◌+◌, ◌-◌, ◌<◌, ◌≤◌, List, [], ◌∷◌, ◌++◌, length, set, take, drop, replicate, Ok, Err, Option, sym, refl, ap, ◌∙◌, arith, length-set}
+use Rattle.std.proofs.lemmas.List.{set-append_left, take-append-drop, length-take-le}
+use Rattle.moves.specs.Moves.{moves_max, no_move}
 use Rattle.words.specs.declared.axis.AxisId.{AxisId}
 use Rattle.words.specs.declared.fault.Fault.{Fault}
 use Rattle.moves.specs.declared.moves.Move.{Move}
-use Rattle.blocks.specs.Directory.{word_at}
 use Rattle.blocks.specs.Numbers.{filled}
 use Rattle.blocks.specs.Questions.{answer}
 use Rattle.blocks.proofs.Questions.{passed, passed_value, stopped}
 use Rattle.blocks.proofs.Starts.{left_step}
-use Rattle.movesets.specs.Control.{move_length, has_feedrate}
-use Rattle.movesets.specs.declared.moveset.Placed.{Placed}
-use Rattle.movesets.specs.Movesets.{move_questions, move_of, next_start, moves_asked, moves_from}
+use Rattle.movesets.specs.Actions.{action_questions}
+use Rattle.movesets.specs.Movesets.{control_questions, move_questions, move_of, next_start, moves_asked, moves_from}
 
--- a move has four words at the most
-three_or_four : (t : Bool) → cond t 4 3 ≤ 4
-three_or_four true = omega arith
-three_or_four false = omega arith
+module _ (ws : List ℕ) (a : Option AxisId) (n i at : ℕ) (h : i < n) where
+  -- the first of the moves that are left is asked
+  asked_step : answer (moves_asked ws a at (n - i)) (tt {0}) ≡ answer (move_questions ws a at ++ moves_asked ws a (next_start ws at) (n - (i + 1))) (tt {0})
+  asked_step = ap (λ k. answer (moves_asked ws a at k) (tt {0})) (left_step n i h)
 
-pub move_length_le : (w : ℕ) → move_length w ≤ 4
-move_length_le w = three_or_four (has_feedrate w)
+  -- its control word or its length has the first no
+  pub control_stop : (e : Fault) → Err e ≡ answer (control_questions ws a at) (tt {0}) → Err e ≡ answer (moves_asked ws a at (n - i)) (tt {0})
+  unfolding move_questions
+  control_stop e r =
+      sym (asked_step ∙ stopped (move_questions ws a at) (moves_asked ws a (next_start ws at) (n - (i + 1))) (tt {0}) (tt {0}) e (sym (stopped (control_questions ws a at) (action_questions ws a at) (tt {0}) (tt {0}) e r)))
 
-module _ (ws : List ℕ) (a : Option AxisId) (n i : ℕ) (ms : List Move) (at : ℕ) (h : i < n) where
-  -- what is left to read
-  abbrev left : Result (List Move) Fault
-  left = answer (moves_asked ws a at (n - i)) (filled ms i (moves_from ws at (n - i)))
+  -- they have none, and its action has it
+  pub action_stop : (e : Fault) → Ok (tt {0}) ≡ answer (control_questions ws a at) (tt {0}) → Err e ≡ answer (action_questions ws a at) (move_of ws at) → Err e ≡ answer (moves_asked ws a at (n - i)) (tt {0})
+  unfolding move_questions
+  action_stop e p r =
+      sym (asked_step ∙ stopped (move_questions ws a at) (moves_asked ws a (next_start ws at) (n - (i + 1))) (move_of ws at) (tt {0}) e (r ∙ sym (passed (control_questions ws a at) (action_questions ws a at) (tt {0}) (tt {0}) (move_of ws at) p)))
 
-  abbrev placed : Placed
-  placed = record { value = move_of ws at; next = next_start ws at }
+  -- the move has none
+  pub move_go : (m : Move) → Ok (tt {0}) ≡ answer (control_questions ws a at) (tt {0}) → Ok m ≡ answer (action_questions ws a at) (move_of ws at) → answer (moves_asked ws a (next_start ws at) (n - (i + 1))) (tt {0}) ≡ answer (moves_asked ws a at (n - i)) (tt {0})
+  unfolding move_questions
+  move_go m p r =
+      sym (asked_step ∙ passed (move_questions ws a at) (moves_asked ws a (next_start ws at) (n - (i + 1))) (move_of ws at) m (tt {0}) (r ∙ sym (passed (control_questions ws a at) (action_questions ws a at) (tt {0}) (tt {0}) (move_of ws at) p)))
 
-  -- what is left once the move at `at` was read as z
-  abbrev behind : Placed → Result (List Move) Fault
-  behind z = answer (moves_asked ws a z.next (n - (i + 1))) (filled (set ms i z.value) (i + 1) (moves_from ws z.next (n - (i + 1))))
+  -- and is put into its slot
+  pub filled_go : (ms : List Move) (m : Move) → Ok m ≡ answer (action_questions ws a at) (move_of ws at) → filled (set ms i m) (i + 1) (moves_from ws (next_start ws at) (n - (i + 1))) ≡ filled ms i (moves_from ws at (n - i))
+  filled_go ms m r =
+      ap (λ x. filled (set ms i x) (i + 1) (moves_from ws (next_start ws at) (n - (i + 1)))) (passed_value (action_questions ws a at) (move_of ws at) m r)
+      ∙ sym (ap (λ k. filled ms i (moves_from ws at k)) (left_step n i h))
 
-  moves_step : left ≡ answer (move_questions ws a at ++ moves_asked ws a (next_start ws at) (n - (i + 1))) (filled (set ms i (move_of ws at)) (i + 1) (moves_from ws (next_start ws at) (n - (i + 1))))
-  moves_step = ap (λ k. answer (moves_asked ws a at k) (filled ms i (moves_from ws at k))) (left_step n i h)
+-- as many moves are read as there are to be
+pub length-moves_from : (ws : List ℕ) (at n : ℕ) → length (moves_from ws at n) ≡ n
+length-moves_from ws at zero = refl
+length-moves_from ws at (suc n) = ap suc (length-moves_from ws (next_start ws at) n)
 
-  -- the first of the moves that are left has the first no
-  pub move_stop : (e : Fault) → Err e ≡ answer (move_questions ws a at) placed → Err e ≡ left
-  move_stop e r =
-      sym (moves_step ∙ stopped (move_questions ws a at) (moves_asked ws a (next_start ws at) (n - (i + 1))) placed (filled (set ms i (move_of ws at)) (i + 1) (moves_from ws (next_start ws at) (n - (i + 1)))) e r)
+-- what is put into the front of a list leaves the rest of it
+pub filled-append : (xs ys : List Move) (i : ℕ) (ms : List Move) → i + length ms ≤ length xs → filled (xs ++ ys) i ms ≡ filled xs i ms ++ ys
+filled-append xs ys i [] h = refl
+filled-append xs ys i (m ∷ ms) h =
+    ap (λ zs. filled zs (i + 1) ms) (set-append_left xs ys i m (omega arith))
+    ∙ filled-append (set xs i m) ys (i + 1) ms (omega (arith, length-set xs i m))
 
-  -- it has none, and is put into its slot
-  pub move_go : (z : Placed) → Ok z ≡ answer (move_questions ws a at) placed → behind z ≡ left
-  move_go z r =
-      ap behind (passed_value (move_questions ws a at) placed z r)
-      ∙ sym (moves_step ∙ passed (move_questions ws a at) (moves_asked ws a (next_start ws at) (n - (i + 1))) placed z (filled (set ms i (move_of ws at)) (i + 1) (moves_from ws (next_start ws at) (n - (i + 1)))) r)
+-- the slots of a moveset, before anything is read
+abbrev pub unused : List Move
+unused = replicate moves_max no_move
 
-  -- the next one starts four words on at the most
-  pub next_le : (z : Placed) → Ok z ≡ answer (move_questions ws a at) placed → z.next ≤ at + 4
-  next_le z r =
-      let e : z.next ≡ at + move_length (word_at ws at) = ap (λ y. y.next) (passed_value (move_questions ws a at) placed z r) in
-      omega (arith, e, move_length_le (word_at ws at))
+-- the first n of them are n
+pub length-first : (n : ℕ) → n ≤ moves_max → length (take n unused) ≡ n
+length-first n h = length-take-le n unused h
+
+-- n moves that were read into the first of them are those of a moveset, and behind them the slots are as they were
+pub slots_read : (ws : List ℕ) (n : ℕ) (read : List Move) → n ≤ moves_max → read ≡ filled (take n unused) 0 (moves_from ws 1 (length (take n unused))) → read ++ drop n unused ≡ filled unused 0 (moves_from ws 1 n)
+slots_read ws n read h e =
+    let ms = moves_from ws 1 n in
+    let put : read ≡ filled (take n unused) 0 ms = e ∙ ap (λ k. filled (take n unused) 0 (moves_from ws 1 k)) (length-first n h) in
+    ap (λ s. s ++ drop n unused) put
+    ∙ sym (filled-append (take n unused) (drop n unused) 0 ms (omega (arith, length-first n h, length-moves_from ws 1 n)))
+    ∙ ap (λ s. filled s 0 ms) (take-append-drop n unused)

@@ -6,7 +6,7 @@
 #![tactic(auto)]
 
 mod actions;
-mod control;
+mod move_words;
 pub mod moveset;
 
 pub use moveset::read_moveset;

@@ -1,18 +1,35 @@
-use Rattle.std.proofs.Common.{Some, Err, ap, ◌∙◌, arith}
+use Rattle.std.proofs.Common.{Some, Err, length, ap, ◌∙◌}
 use Rattle.std.proofs.lemmas.Result.{err_from_is_err_and}
-use Rattle.movesets.proofs.Turns.{move_stop, move_go, next_le}
+use Rattle.movesets.proofs.Turns.{control_stop, action_stop, move_go, filled_go}
 use Rattle.movesets.proofs.moveset.read_moves.Goals as goal
 
-pub returns-in_err-placed : goal.returns-in_err-placed
-returns-in_err-placed c =
+pub returns-in_err-words-clause-value : goal.returns-in_err-words-clause-value
+returns-in_err-words-clause-value c =
+    let l = c.loop-slot in
     let p = err_from_is_err_and c.from_residual.result c.from_residual.ensures.1 in
     p.1 ∙ ap Err p.2
-    ∙ move_stop c.args.words.now (Some c.args.axis) c.args.count c.loop-i.i c.loop-i.moves c.loop-i.at c.loop-i-test.true _ c.in_err-placed.ensures
-    ∙ c.loop-i.invariant.0
+    ∙ control_stop c.args.block.words.now (Some c.args.block.axis) (length c.args.slots.now) l.slot-index l.at c.loop-slot-test.true _ c.in_err-words.ensures
+    ∙ l.invariant.0
 
-pub loop-i-preserved : goal.loop-i-preserved
-loop-i-preserved c =
-    let ws = c.args.words.now in
-    let z = c.in_ok-placed.placed in
-    let next = next_le ws (Some c.args.axis) c.args.count c.loop-i.i c.loop-i.moves c.loop-i.at c.loop-i-test.true z c.in_ok-placed.ensures in
-    (move_go ws (Some c.args.axis) c.args.count c.loop-i.i c.loop-i.moves c.loop-i.at c.loop-i-test.true z c.in_ok-placed.ensures ∙ c.loop-i.invariant.0, omega (arith, next))
+pub returns-in_err-slot-clause-value : goal.returns-in_err-slot-clause-value
+returns-in_err-slot-clause-value c =
+    let l = c.loop-slot in
+    let is = c.in_ok-words.ensures in
+    let no = rw (is.0, is.1) at c.in_err-slot.ensures in
+    let p = err_from_is_err_and c.from_residual-in_err-slot.result c.from_residual-in_err-slot.ensures.1 in
+    p.1 ∙ ap Err p.2
+    ∙ action_stop c.args.block.words.now (Some c.args.block.axis) (length c.args.slots.now) l.slot-index l.at c.loop-slot-test.true _ is.2 no
+    ∙ l.invariant.0
+
+pub loop-slot-preserved : goal.loop-slot-preserved
+loop-slot-preserved c =
+    let l = c.loop-slot in
+    let ws = c.args.block.words.now in
+    let a = Some c.args.block.axis in
+    let is = c.in_ok-words.ensures in
+    let m = c.in_ok-slot.field-0 in
+    let yes = rw (is.0, is.1) at c.in_ok-slot.ensures in
+    let next = rw (is.0, is.1) at c.end-at.ensures in
+    let go = move_go ws a (length c.args.slots.now) l.slot-index l.at c.loop-slot-test.true m is.2 yes in
+    let put = filled_go ws a (length c.args.slots.now) l.slot-index l.at c.loop-slot-test.true l.slots m yes in
+    rw next (go ∙ l.invariant.0, put ∙ l.invariant.1)

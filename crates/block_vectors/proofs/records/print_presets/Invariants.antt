@@ -1,5 +1,0 @@
-use Rattle.std.proofs.Common.{◌-◌, length}
-use Rattle.block_vectors.proofs.records.print_presets.Given as goal
-
-abbrev pub decreases-loop-case : goal.decreases-loop-case
-decreases-loop-case o l = length l.table - l.at
