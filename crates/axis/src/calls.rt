@@ -5,7 +5,7 @@ ghost use Rattle.drive.specs.Orders.{Told};
 ghost use Rattle.axis.specs.Calls.{Follows, reference};
 ghost use Rattle.axis.specs.Responses.{Tick, Commanded, ParametersSet, MovesetSet, PresetHeld, PresetLoaded, response, taken_down_response, moved_response, naming, step_of};
 ghost use Rattle.modes.specs.Commands.{with_moveset};
-ghost use Rattle.axis.specs.Reference.{over, is_up, alarm, taken_down, seen, after_naming, after_motion, moved, tick, commanded, accepted, load};
+ghost use Rattle.axis.specs.Reference.{is_up, alarm, taken_down, seen, after_naming, after_motion, moved, tick, commanded, accepted, load};
 ghost use Rattle.moves.specs.State.{with_held, new_state};
 
 use crate::over_drive::Axis;
@@ -42,7 +42,7 @@ impl<D: Drive> Axis<D> {
 
     // One tick. The drive feels first; then the first alarm takes the axis down, or it moves and gives one step.
     pub fn tick(&mut self, input: Input)
-        ensures after { over self.new.control.state (D.meaning self.new.drive) ≡ tick input (over self.old.control.state (D.meaning self.old.drive)) }
+        ensures after { reference D.meaning self.new ≡ tick input (reference D.meaning self.old) }
         ensures follows { Follows D.meaning D.obeys self.old self.new (response (Tick input) (reference D.meaning self.old)) }
     {
         self.drive.feel(i32::from(input.counts), input.ready);
@@ -56,18 +56,18 @@ impl<D: Drive> Axis<D> {
 
     // A command, on an axis that is allowed it.
     pub fn command(&mut self, command: Command)
-        ensures after { over self.new.control.state (D.meaning self.new.drive) ≡ commanded command (over self.old.control.state (D.meaning self.old.drive)) }
+        ensures after { reference D.meaning self.new ≡ commanded command (reference D.meaning self.old) }
         ensures follows { Follows D.meaning D.obeys self.old self.new (response (Commanded command) (reference D.meaning self.old)) }
     {
         apply_command(&mut self.control, command, self.drive.place());
-        if let Command::Reset = command {
+        if command == Command::Reset {
             self.drive.wake();
         }
     }
 
     // Accepted parameters.
     pub fn set_parameters(&mut self, parameters: Parameters)
-        ensures after { over self.new.control.state (D.meaning self.new.drive) ≡ accepted parameters (over self.old.control.state (D.meaning self.old.drive)) }
+        ensures after { reference D.meaning self.new ≡ accepted parameters (reference D.meaning self.old) }
         ensures follows { Follows D.meaning D.obeys self.old self.new (response (ParametersSet parameters) (reference D.meaning self.old)) }
     {
         store_parameters(&mut self.control, parameters);
@@ -95,7 +95,7 @@ impl<D: Drive> Axis<D> {
 
     // The held preset is loaded, and is held no more.
     pub fn load(&mut self)
-        ensures after { over self.new.control.state (D.meaning self.new.drive) ≡ load (over self.old.control.state (D.meaning self.old.drive)) }
+        ensures after { reference D.meaning self.new ≡ load (reference D.meaning self.old) }
         ensures follows { Follows D.meaning D.obeys self.old self.new (response PresetLoaded (reference D.meaning self.old)) }
     {
         load_preset(&mut self.control, self.drive.place());
@@ -103,7 +103,7 @@ impl<D: Drive> Axis<D> {
 
     // Why this tick takes the axis down, if it does.
     fn alarm(&self, input: &Input) -> Option<Note>
-        ensures { result ≡ alarm input.now (over self.now.control.state (D.meaning self.now.drive)) }
+        ensures { result ≡ alarm input.now (reference D.meaning self.now) }
     {
         if input.stop {
             return Some(Note::StopInput);
@@ -111,18 +111,12 @@ impl<D: Drive> Axis<D> {
         if !self.drive.awake() {
             return Some(Note::DriveAsleep);
         }
-        if gap_within(
-            self.drive.gap(),
-            self.control.state.parameters.following_limit,
-        ) {
-            None
-        } else {
-            Some(Note::FollowingError)
-        }
+        let limit = self.control.state.parameters.following_limit;
+        (!gap_within(self.drive.gap(), limit)).then_some(Note::FollowingError)
     }
 
     fn take_down(&mut self, why: Note)
-        ensures after { over self.new.control.state (D.meaning self.new.drive) ≡ taken_down why (over self.old.control.state (D.meaning self.old.drive)) }
+        ensures after { reference D.meaning self.new ≡ taken_down why (reference D.meaning self.old) }
         ensures follows { Follows D.meaning D.obeys self.old self.new (taken_down_response why (reference D.meaning self.old)) }
     {
         self.control.state.motion.mode = Mode::Down;
@@ -134,7 +128,7 @@ impl<D: Drive> Axis<D> {
 
     // The axis stays up: it moves by its mode and gives one step, of 0 too.
     fn advance(&mut self, input: &Input)
-        ensures after { over self.new.control.state (D.meaning self.new.drive) ≡ moved input.now (over self.old.control.state (D.meaning self.old.drive)) }
+        ensures after { reference D.meaning self.new ≡ moved input.now (reference D.meaning self.old) }
         ensures follows { Follows D.meaning D.obeys self.old self.new (moved_response input.now (reference D.meaning self.old)) }
     {
         let seen = look(&self.drive);
@@ -177,8 +171,5 @@ fn give_step<D: Drive>(drive: &mut D, motion: Motion)
 fn is_up(mode: Mode) -> bool
     ensures { result ≡ is_up mode }
 {
-    match mode {
-        Mode::Unset | Mode::Down => false,
-        _ => true,
-    }
+    !matches!(mode, Mode::Unset | Mode::Down)
 }

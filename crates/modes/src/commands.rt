@@ -7,7 +7,7 @@ use moves::{
     Control, Coordinates, Direction, Mode, Motion, Moveset, Parameters, Program, State, base_under,
 };
 
-#[derive(Clone, Copy)]
+#[derive(Clone, Copy, Debug, PartialEq, Eq)]
 pub enum Command {
     // sets up the first move
     Begin,
@@ -23,6 +23,7 @@ pub enum Command {
 }
 
 impl Command {
+    // An override holds a value, so there are no discriminants to cast.
     pub fn code(self) -> u8
         ensures { result ≡ command_code self }
     {
@@ -54,9 +55,10 @@ fn stopped_mode(mode: Mode) -> Mode
 pub fn lose_home(control: &mut Control, place: i32)
     ensures { control.new.state ≡ lose_home place control.old.state }
 {
-    control.state.coordinates.base = 0;
-    control.state.coordinates.accumulator = 0;
-    control.state.coordinates.last_endpoint = i64::from(place);
+    control.state.coordinates = Coordinates {
+        last_endpoint: i64::from(place),
+        ..Coordinates::default()
+    };
     control.state.homed = false;
 }
 
@@ -103,19 +105,8 @@ pub fn store_parameters(control: &mut Control, parameters: Parameters)
             speed: 0,
             direction: control.state.motion.direction,
         },
-        coordinates: Coordinates {
-            base: 0,
-            accumulator: 0,
-            last_endpoint: 0,
-        },
-        program: Program {
-            moveset: None,
-            current: 0,
-        },
-        note: None,
-        override_percent: 100,
-        homed: false,
         held: control.state.held,
+        ..State::new()
     };
 }
 
@@ -132,12 +123,11 @@ pub fn store_moveset(control: &mut Control, moveset: Moveset)
 pub fn load_preset(control: &mut Control, place: i32)
     ensures { control.new.state ≡ loaded place control.old.state.held control.old.state }
 {
-    if let Some(preset) = control.state.held {
+    if let Some(preset) = control.state.held.take() {
         control.state.coordinates = Coordinates {
             base: base_under(place, preset),
             accumulator: 0,
             last_endpoint: i64::from(preset),
         };
-        control.state.held = None;
     }
 }

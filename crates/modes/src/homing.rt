@@ -1,6 +1,6 @@
 // The search for home.
 ghost use Rattle.std.specs.Prelude.{◌≡◌};
-ghost use Rattle.modes.specs.Homing.{search_by, search_home, found, at_home, creep, crept_home};
+ghost use Rattle.modes.specs.Homing.{search_home, found, at_home, creep, crept_home};
 
 use crate::input::Seen;
 use crate::jogging::reach_room;
@@ -13,12 +13,6 @@ pub(crate) fn search_home(control: &mut Control, searching: Mode, rate: u16, see
 {
     let room = reach_room(control, seen);
     let speed = rates_at(control, rate).plan(control.state.motion.speed, room);
-    search_by(control, searching, room, speed);
-}
-
-fn search_by(control: &mut Control, searching: Mode, room: u64, speed: u16)
-    ensures { control.new.state ≡ search_by searching room speed control.old.state }
-{
     control.state.motion.speed = speed;
     if u64::from(speed) == room {
         control.state.motion.mode = Mode::Stopping;

@@ -1,6 +1,6 @@
 // What an axis is told in a tick, and what its drive shows then.
 
-#[derive(Clone, Copy)]
+#[derive(Clone, Copy, Debug, PartialEq, Eq)]
 pub struct Input {
     // what its encoder counted since the tick before
     pub counts: i16,
@@ -14,7 +14,7 @@ pub struct Input {
     pub marker: bool,
 }
 
-#[derive(Clone, Copy)]
+#[derive(Clone, Copy, Debug, PartialEq, Eq)]
 pub struct Seen {
     pub place: i32,
     pub gap: i32,

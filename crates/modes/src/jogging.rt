@@ -1,6 +1,6 @@
 // Jogging, and the room that an axis has within its limits or its reach.
 ghost use Rattle.std.specs.Prelude.{◌≡◌};
-ghost use Rattle.modes.specs.Jogging.{room_to, up_to, reach_room, jog_room, jog_by, jog};
+ghost use Rattle.modes.specs.Jogging.{room_to, up_to, reach_room, jog_room, jog};
 
 use crate::input::Seen;
 use crate::rates::rates_at;
@@ -56,16 +56,8 @@ pub(crate) fn jog(control: &mut Control, seen: &Seen)
     ensures { control.new.state ≡ jog seen.now control.old.state }
 {
     let room = jog_room(control, seen);
-    let speed = rates_at(control, control.state.parameters.jog_rate).plan(
-        control.state.motion.speed,
-        room,
-    );
-    jog_by(control, room, speed);
-}
-
-fn jog_by(control: &mut Control, room: u64, speed: u16)
-    ensures { control.new.state ≡ jog_by room speed control.old.state }
-{
+    let rates = rates_at(control, control.state.parameters.jog_rate);
+    let speed = rates.plan(control.state.motion.speed, room);
     control.state.motion.speed = speed;
     control.state.motion.mode = if u64::from(speed) == room {
         Mode::Stopping

@@ -9,6 +9,7 @@ use moves::{Action, Control, Move};
 fn feedrate_of(given: u16, under_way: Option<Move>) -> u16
     ensures { result ≡ feedrate_of given under_way }
 {
+    // An and_then would hold this same pattern.
     match under_way {
         Some(
             Move {
@@ -25,7 +26,7 @@ fn scaled(feedrate: u16, percent: u8) -> u16
     ensures { result ≡ scaled feedrate percent }
 {
     let rate = u32::from(feedrate) * u32::from(percent) / 100;
-    rate.min(65_535) as u16
+    u16::try_from(rate).unwrap_or(u16::MAX)
 }
 
 pub(crate) fn rates_at(control: &Control, feedrate: u16) -> Rates

@@ -15,26 +15,24 @@ pub fn advance(control: &mut Control, input: &Input, seen: &Seen) -> Option<i32>
     ensures after { control.new.state ≡ advance input.now seen.now control.old.state }
     ensures home { result ≡ named_home input.now control.old.state }
 {
-    match (control.state.motion.mode, input.switch, input.marker) {
-        (Mode::Unset | Mode::Down, _, _) => {}
-        (Mode::Rest | Mode::Waiting, _, _) => stand(control),
-        (Mode::Moving(leg), _, _) => travel(control, leg),
-        (Mode::Settling(endpoint), _, _) => {
+    match control.state.motion.mode {
+        Mode::Unset | Mode::Down => {}
+        Mode::Rest | Mode::Waiting => stand(control),
+        Mode::Moving(leg) => travel(control, leg),
+        Mode::Settling(endpoint) => {
             let in_band = gap_within(seen.gap, control.state.parameters.band);
             settle(control, endpoint, seen.place, in_band);
         }
-        (Mode::Dwelling(ticks), _, _) => dwell(control, seen.place, ticks),
-        (Mode::Stopping, _, _) => slow_down(control, seen.place),
-        (Mode::Jogging, _, _) => jog(control, seen),
-        (Mode::Homing, false, _) => search_home(
+        Mode::Dwelling(ticks) => dwell(control, seen.place, ticks),
+        Mode::Stopping => slow_down(control, seen.place),
+        Mode::Jogging => jog(control, seen),
+        Mode::Homing if !input.switch => search_home(
             control,
             Mode::Homing,
             control.state.parameters.home_rate,
             seen,
         ),
-        (Mode::Homing, true, marker) | (Mode::Creeping, _, marker) => return creep(
-            control, marker, seen,
-        ),
+        Mode::Homing | Mode::Creeping => return creep(control, input.marker, seen),
     }
     None
 }

@@ -1,7 +1,7 @@
 // Moving, and running into a partner.
-ghost use Rattle.std.specs.Prelude.{◌≡◌, ◌+◌, ◌≤◌, IfSome};
-ghost use Rattle.moves.specs.Partner.{partner_length, Joins};
-ghost use Rattle.modes.specs.Travel.{nearer, second_leg, blend, follow, run_into, travel_by, travel};
+ghost use Rattle.std.specs.Prelude.{◌≡◌, ◌+◌, ◌≤◌};
+ghost use Rattle.moves.specs.Partner.{Joins};
+ghost use Rattle.modes.specs.Travel.{nearer, second_leg, blend, follow, travel};
 
 use crate::rates::move_rates;
 use moves::{Control, Leg, Mode, Partner, partner_length};
@@ -50,32 +50,18 @@ fn follow(control: &mut Control, leg: Leg, speed: u16)
     }
 }
 
-// The partner is set up with what is left of both.
-fn run_into(control: &mut Control, leg: Leg, partner: &Partner, speed: u16)
-    requires { (Joins control.old.state partner.now) × ((leg.left ≤ speed) × (speed ≤ leg.left + partner.now.length)) }
-    ensures { control.new.state ≡ run_into leg partner.now speed control.old.state }
-{
-    blend(control, &leg, partner);
-    follow(control, second_leg(leg, partner, speed), speed);
-}
-
-// A speed of at least what is left runs into the partner.
-fn travel_by(control: &mut Control, leg: Leg, partner: Option<Partner>, speed: u16)
-    requires { (IfSome partner (Joins control.old.state)) × (speed ≤ leg.left + partner_length partner) }
-    ensures { control.new.state ≡ travel_by leg partner speed control.old.state }
-{
-    match partner {
-        Some(partner) if leg.left <= u32::from(speed) => run_into(control, leg, &partner, speed),
-        _ => follow(control, nearer(leg, speed), speed),
-    }
-}
-
-// The room is what is left of the move, and its partner's length.
+// The room is what is left of the move, and its partner's length. A speed of at least what is left runs into the partner.
 pub(crate) fn travel(control: &mut Control, leg: Leg)
     ensures { control.new.state ≡ travel leg control.old.state }
 {
     let partner = control.partner(&leg);
     let room = u64::from(leg.left) + u64::from(partner_length(&partner));
     let speed = move_rates(control).plan(control.state.motion.speed, room);
-    travel_by(control, leg, partner, speed);
+    match partner {
+        Some(partner) if leg.left <= u32::from(speed) => {
+            blend(control, &leg, &partner);
+            follow(control, second_leg(leg, &partner, speed), speed);
+        }
+        _ => follow(control, nearer(leg, speed), speed),
+    }
 }

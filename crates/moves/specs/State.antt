@@ -1,5 +1,5 @@
 -- The parts of an axis's state that the rules change, each by a function of its own.
-use Rattle.std.specs.Prelude.{ℕ, ◌^◌, ◌<◌, Bool, false, ◌||◌, ℤ, pos, ◌-ℤ◌, neg_ℤ, ◌≤ℤ◌, Some, None, Option, int_lt}
+use Rattle.std.specs.Prelude.{ℕ, Bool, false, ◌||◌, ℤ, pos, ◌-ℤ◌, neg_ℤ, ◌≤ℤ◌, Some, None, Option, int_lt}
 use Rattle.moves.specs.declared.parameters.Parameters.{Parameters}
 use Rattle.moves.specs.declared.state.Coordinates.{Coordinates}
 use Rattle.moves.specs.declared.state.Direction.{Direction}
@@ -11,7 +11,7 @@ use Rattle.moves.specs.declared.state.Note.{Note}
 use Rattle.moves.specs.declared.state.Program.{Program}
 use Rattle.moves.specs.declared.state.State.{State}
 use Rattle.moves.specs.declared.moves.Move.{Move}
-use Rattle.moves.specs.Moves.{move_at, moves_max}
+use Rattle.moves.specs.Moves.{move_at}
 
 abbrev pub with_motion : Motion → State → State
 with_motion m s =
@@ -132,17 +132,6 @@ stored_move p i = elim p.moveset [ None ↦ None | Some m ↦ move_at m i ]
 -- z is a number from -n to n
 abbrev pub Within : ℕ → ℤ → Type 0
 Within n z = (neg_ℤ (pos n) ≤ℤ z) × (z ≤ℤ pos n)
-
--- What the coordinates of every axis keep to, whatever its parameters, moves and drive, so that no sum of them overflows.
-pub record CoordinateRanges (c : Coordinates) : Type 0 where
-  pub base_within : Within (2 ^ 33) c.base
-  pub accumulator_within : Within (2 ^ 25) c.accumulator
-  pub last_within : Within (2 ^ 34) c.last_endpoint
-
--- What the state of every axis keeps to.
-pub record Ranges (s : State) : Type 0 where
-  pub coordinates : CoordinateRanges s.coordinates
-  pub current : s.program.current < moves_max
 
 -- the largest size of a position that can be shown
 abbrev pub shown_max : ℤ

@@ -10,7 +10,6 @@ pub mod control;
 pub mod moves;
 pub mod parameters;
 pub mod partner;
-mod progress;
 pub mod set_up;
 mod shown;
 pub mod state;

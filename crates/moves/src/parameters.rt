@@ -1,7 +1,7 @@
 // What a parameter record sets for an axis.
 
 // Limits and home are places of the drive, the offset is in counts, rates are counts per tick.
-#[derive(Clone, Copy)]
+#[derive(Clone, Copy, Debug, Default, PartialEq, Eq)]
 pub struct Parameters {
     pub low: i32,
     pub high: i32,

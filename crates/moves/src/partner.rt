@@ -1,13 +1,13 @@
 // The partner of a move: the move after it, where the axis may run into it without coming to rest.
-ghost use Rattle.std.specs.Prelude.{◌≡◌, ◌^◌, IfSome, IfOk};
+ghost use Rattle.std.specs.Prelude.{◌≡◌, IfSome};
 ghost use Rattle.moves.specs.Partner.{leads, runs_on, joined, partner_by, partner, partner_length, Joins};
-ghost use Rattle.moves.specs.State.{Ranges, Within};
 
+use crate::control::Control;
 use crate::moves::{Action, Move};
 use crate::set_up::Destination;
-use crate::state::{Direction, Leg, Note, State};
+use crate::state::{Direction, Leg, Note};
 
-#[derive(Clone, Copy)]
+#[derive(Clone, Copy, Debug, PartialEq, Eq)]
 pub struct Partner {
     pub destination: Destination,
     // its length from the endpoint of the move before it
@@ -27,23 +27,14 @@ impl Direction {
 
     // The next move, if it would be set up without a note, has a length from this endpoint and runs the same way.
     fn joined(self, endpoint: i32, next: Result<Destination, Note>) -> Option<Partner>
-        requires { IfOk next (λ d. Within (2 ^ 25) d.accumulator) }
-        ensures value { result ≡ joined self endpoint next }
-        ensures within { IfSome result (λ p. Within (2 ^ 25) p.destination.accumulator) }
+        ensures { result ≡ joined self endpoint next }
     {
-        match next {
-            Err(_) => None,
-            Ok(destination) => {
-                if self.leads(endpoint, destination.endpoint) {
-                    Some(Partner {
-                        destination,
-                        length: destination.endpoint.abs_diff(endpoint),
-                    })
-                } else {
-                    None
-                }
-            }
-        }
+        let destination = next.ok()?;
+        self.leads(endpoint, destination.endpoint)
+            .then_some(Partner {
+                destination,
+                length: destination.endpoint.abs_diff(endpoint),
+            })
     }
 }
 
@@ -56,15 +47,16 @@ impl Move {
     }
 }
 
-impl State {
+impl Control {
     // The partner of the move under way.
-    pub(crate) fn partner(&self, leg: &Leg) -> Option<Partner>
-        requires { Ranges self.now }
-        ensures value { result ≡ partner self.now leg.now }
-        ensures joins { IfSome result (Joins self.now) }
+    #[tactic(auto, using(crate::proofs::Destinations::partner_by_within))]
+    pub fn partner(&self, leg: &Leg) -> Option<Partner>
+        ensures value { result ≡ partner self.now.state leg.now }
+        ensures joins { IfSome result (Joins self.now.state) }
     {
-        let this = self.program.stored(self.program.current)?;
-        let next = self.program.stored(self.program.current + 1)?;
+        let program = &self.state.program;
+        let this = program.stored(program.current)?;
+        let next = program.stored(program.current + 1)?;
         if this.runs_on(leg) {
             self.partner_by(leg, &next.action)
         } else {
@@ -74,15 +66,12 @@ impl State {
 
     // Presets and dwells are no partners.
     fn partner_by(&self, leg: &Leg, next: &Action) -> Option<Partner>
-        requires { Ranges self.now }
-        ensures value { result ≡ partner_by self.now leg.now next.now }
-        ensures within { IfSome result (λ p. Within (2 ^ 25) p.destination.accumulator) }
+        ensures { result ≡ partner_by self.now.state leg.now next.now }
     {
         match next {
             Action::Travel(travel) => {
-                let from = self.coordinates.position_of(leg.endpoint);
-                let next = self.parameters.destination(&self.coordinates, from, travel);
-                self.motion.direction.joined(leg.endpoint, next)
+                let next = self.destination(self.position_of(leg.endpoint), travel);
+                self.state.motion.direction.joined(leg.endpoint, next)
             }
             Action::Preset(_) | Action::Dwell(_) => None,
         }
@@ -93,8 +82,5 @@ impl State {
 pub fn partner_length(partner: &Option<Partner>) -> u32
     ensures { result ≡ partner_length partner.now }
 {
-    match partner {
-        Some(partner) => partner.length,
-        None => 0,
-    }
+    partner.map_or(0, |partner| partner.length)
 }

@@ -6,12 +6,11 @@ ghost use Rattle.moves.specs.State.{Within, beyond_shown};
 use crate::parameters::Parameters;
 
 // The largest size of a position that can be shown.
-pub(crate) const SHOWN_MAX: i64 = 19_999_999;
+pub(crate) const SHOWN_MAX: u64 = 19_999_999;
 
 impl Parameters {
     // Whether both limits can be shown as positions under that base.
     pub(crate) fn limits_show(&self, base: i64) -> bool
-        requires { Within (2 ^ 33) base }
         ensures { result ≡ limits_show self.now base }
     {
         shows(self.low, base) && shows(self.high, base)
@@ -20,16 +19,9 @@ impl Parameters {
 
 // Whether a place can be shown as a position under that base.
 fn shows(place: i32, base: i64) -> bool
-    requires { Within (2 ^ 33) base }
     ensures { result ≡ not (beyond_shown (place -ℤ base)) }
 {
-    in_shown_range(i64::from(place) - base)
-}
-
-fn in_shown_range(number: i64) -> bool
-    ensures { result ≡ not (beyond_shown number) }
-{
-    !(number < -SHOWN_MAX || SHOWN_MAX < number)
+    i64::from(place).abs_diff(base) <= SHOWN_MAX
 }
 
 // The base under which a place has that position.

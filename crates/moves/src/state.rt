@@ -7,14 +7,26 @@ ghost use Rattle.moves.specs.State.{signed, new_state, stored_move};
 use crate::moves::{Move, Moveset};
 use crate::parameters::Parameters;
 
-#[derive(Clone, Copy)]
+#[derive(Clone, Copy, Debug, PartialEq, Eq)]
 pub enum Direction {
     Plus,
     Minus,
 }
 
+impl Direction {
+    // So many counts in this direction.
+    pub fn signed(self, speed: u16) -> i32
+        ensures { result ≡ signed self speed }
+    {
+        match self {
+            Direction::Plus => i32::from(speed),
+            Direction::Minus => -i32::from(speed),
+        }
+    }
+}
+
 // A move under way.
-#[derive(Clone, Copy)]
+#[derive(Clone, Copy, Debug, PartialEq, Eq)]
 pub struct Leg {
     // where it ends, as a place of the drive
     pub endpoint: i32,
@@ -24,7 +36,7 @@ pub struct Leg {
     pub length: u32,
 }
 
-#[derive(Clone, Copy)]
+#[derive(Clone, Copy, Debug, PartialEq, Eq)]
 pub enum Mode {
     // no parameters were accepted yet
     Unset,
@@ -44,6 +56,7 @@ pub enum Mode {
 }
 
 impl Mode {
+    // Three modes hold a value, so there are no discriminants to cast.
     pub fn number(self) -> u8
         ensures { result ≡ mode_number self }
     {
@@ -64,44 +77,37 @@ impl Mode {
 }
 
 // Why an axis came to rest or went down; the status shows its number.
-#[derive(Clone, Copy)]
+#[derive(Clone, Copy, Debug, PartialEq, Eq)]
 pub enum Note {
     // the endpoint of a move is outside the limits
-    OutsideLimits,
+    OutsideLimits = 17,
     // the accumulator, or a limit under a preset, is beyond what a position can show
-    OutOfRange,
+    OutOfRange = 18,
     // the search for home came to the end of the reach
-    HomeNotFound,
-    StopInput,
-    DriveAsleep,
+    HomeNotFound = 19,
+    StopInput = 20,
+    DriveAsleep = 21,
     // the gap is larger than the following limit
-    FollowingError,
+    FollowingError = 22,
 }
 
 impl Note {
     pub fn number(self) -> u8
         ensures { result ≡ note_number self }
     {
-        match self {
-            Note::OutsideLimits => 17,
-            Note::OutOfRange => 18,
-            Note::HomeNotFound => 19,
-            Note::StopInput => 20,
-            Note::DriveAsleep => 21,
-            Note::FollowingError => 22,
-        }
+        self as u8
     }
 }
 
 // How programmed positions lie on the places of the drive: a target is the place target + base + accumulator.
-#[derive(Clone, Copy)]
+#[derive(Clone, Copy, Debug, Default, PartialEq, Eq)]
 pub struct Coordinates {
     pub base: i64,
     pub accumulator: i64,
     pub last_endpoint: i64,
 }
 
-#[derive(Clone, Copy)]
+#[derive(Clone, Copy, Debug, PartialEq, Eq)]
 pub struct Motion {
     pub mode: Mode,
     // the size of the latest step
@@ -114,14 +120,11 @@ impl Motion {
     pub fn step(self) -> i32
         ensures { result ≡ signed self.direction self.speed }
     {
-        match self.direction {
-            Direction::Plus => i32::from(self.speed),
-            Direction::Minus => -i32::from(self.speed),
-        }
+        self.direction.signed(self.speed)
     }
 }
 
-#[derive(Clone, Copy)]
+#[derive(Clone, Copy, Debug, Default, PartialEq, Eq)]
 pub struct Program {
     pub moveset: Option<Moveset>,
     // the index of the move that was set up last
@@ -134,14 +137,11 @@ impl Program {
         ensures value { result ≡ stored_move self.now index }
         ensures within { OnSome result (index < moves_max) }
     {
-        match &self.moveset {
-            Some(moveset) => moveset.get(usize::from(index)),
-            None => None,
-        }
+        self.moveset.as_ref()?.get(usize::from(index))
     }
 }
 
-#[derive(Clone, Copy)]
+#[derive(Clone, Copy, Debug, PartialEq, Eq)]
 pub struct State {
     // all 0 while the mode is Unset
     pub parameters: Parameters,
@@ -158,38 +158,18 @@ pub struct State {
 
 impl State {
     // An axis before any call.
-    pub(crate) fn new() -> State
+    pub fn new() -> State
         ensures { result ≡ new_state }
     {
         State {
-            parameters: Parameters {
-                low: 0,
-                high: 0,
-                home: 0,
-                offset: 0,
-                feedrate: 0,
-                acceleration: 0,
-                deceleration: 0,
-                jog_rate: 0,
-                home_rate: 0,
-                creep_rate: 0,
-                band: 0,
-                following_limit: 0,
-            },
+            parameters: Parameters::default(),
             motion: Motion {
                 mode: Mode::Unset,
                 speed: 0,
                 direction: Direction::Plus,
             },
-            coordinates: Coordinates {
-                base: 0,
-                accumulator: 0,
-                last_endpoint: 0,
-            },
-            program: Program {
-                moveset: None,
-                current: 0,
-            },
+            coordinates: Coordinates::default(),
+            program: Program::default(),
             note: None,
             override_percent: 100,
             homed: false,
