@@ -1,4 +1,4 @@
-// The calls of a drive, as data.
+// The calls of a drive, as data: a table has them, and each is printed as it is made. A closure could not be printed.
 ghost use Rattle.std.specs.Prelude.{◌≡◌};
 ghost use Rattle.vectors.specs.Calls.{call_answer, after_call};
 
@@ -54,9 +54,9 @@ impl fmt::Display for Call {
 
 // What a drive answers a call.
 #[derive(Clone, Copy)]
-pub struct Answer(pub Result<(), Refusal>);
+pub struct Response(pub Result<(), Refusal>);
 
-impl fmt::Display for Answer {
+impl fmt::Display for Response {
     fn fmt<W: fmt::Write>(&self, f: &mut fmt::Formatter<W>) -> fmt::Result {
         match self.0 {
             Ok(()) => f.write_str("taken"),

@@ -1,7 +1,7 @@
 // One call of a drive that stands somewhere, tried on the analog drive and on a reversed mount over one.
 ghost use Rattle.std.specs.Prelude.{◌≡◌};
 
-use crate::calls::{Answer, Call};
+use crate::calls::{Call, Response};
 use drive::{Analog, Drive, Reversed};
 use std::{fmt, io};
 
@@ -83,7 +83,7 @@ impl fmt::Display for Shown {
 struct Trial {
     before: Shown,
     call: Call,
-    answer: Answer,
+    answer: Response,
     after: Shown,
 }
 
@@ -108,7 +108,7 @@ impl Case {
         Trial {
             before: Shown::of(drive),
             call,
-            answer: Answer(call.make(drive)),
+            answer: Response(call.make(drive)),
             after: Shown::of(drive),
         }
     }

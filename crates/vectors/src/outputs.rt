@@ -1,5 +1,5 @@
 // Outputs of the analog drive, and what becomes of its latest step.
-use crate::calls::{Answer, Call};
+use crate::calls::{Call, Response};
 use drive::{Analog, Drive};
 use std::{fmt, io};
 
@@ -79,7 +79,7 @@ pub fn print_latest_steps(rt: &impl Print) -> io::Result<()> {
         let mut drive = Analog::new(1_000, 1_000);
         drive.wake();
         let _ = drive.step(8);
-        let answer = Answer(call.make(&mut drive));
+        let answer = Response(call.make(&mut drive));
         let shown = Shown(drive);
         println!(rt; "after a step of 8 {call} {answer}, {shown}")?;
     }

@@ -4,7 +4,7 @@ use Rattle.drive.specs.Values.{Within, reach_ceiling}
 use Rattle.winder.specs.declared.reading.Reading.{Reading}
 use Rattle.winder.specs.declared.run.Arrival.{Arrival}
 use Rattle.winder.specs.declared.run.Stop.{Stop}
-use Rattle.winder.specs.declared.run.Stop.TheVariants.{Refused, LimitReached, Output}
+use Rattle.winder.specs.declared.run.Stop.TheVariants.{Refused, LimitReached, NotPrinted}
 
 -- z is a place of a drive that has the largest reach
 abbrev pub Reachable : ℤ → Type 0
@@ -21,4 +21,4 @@ abbrev pub ArrivedAt : ℤ → Result Arrival Stop → Type 0
 ArrivedAt z (Ok a) = Standing z a.analog × Standing z a.reversed × (a.ticks ≤ unsigned_abs z + 1)
 ArrivedAt z (Err (Refused e)) = ⊥
 ArrivedAt z (Err LimitReached) = ⊥
-ArrivedAt z (Err (Output e)) = Unit {0}
+ArrivedAt z (Err (NotPrinted e)) = Unit {0}

@@ -5,6 +5,7 @@ ghost use Rattle.winder.specs.Orders.{next_order, order_at_rest, is_over, input_
 use modes::{Command, Input};
 use moves::{Mode, Motion, State};
 
+// An order is answered and printed beside being given, so it is data and no closure.
 #[derive(Clone, Copy)]
 pub enum Order {
     // hands the parameters over

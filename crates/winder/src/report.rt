@@ -44,7 +44,7 @@ fn print_settings(rt: &impl Print) -> io::Result<()> {
 fn print_run(rt: &impl Print, counts: i32) -> io::Result<()> {
     match run(rt, counts) {
         Ok(arrival) => println!(rt; "{arrival}"),
-        Err(Stop::Output(error)) => Err(error),
+        Err(Stop::NotPrinted(error)) => Err(error),
         Err(stop) => println!(rt; "stopped: {stop}"),
     }
 }

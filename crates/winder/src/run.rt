@@ -1,7 +1,7 @@
 // A whole move, tick by tick.
 ghost use Rattle.std.specs.Prelude.{◌≡◌};
 ghost use Rattle.winder.specs.Runs.{Reachable, ArrivedAt};
-ghost use Rattle.winder.specs.declared.run.Stop.TheVariants.{Refused, Output};
+ghost use Rattle.winder.specs.declared.run.Stop.TheVariants.{Refused, NotPrinted};
 
 use crate::bench::Bench;
 use crate::reading::Reading;
@@ -47,7 +47,7 @@ pub enum Stop {
     Refused(Refusal),
     LimitReached,
     // a tick could not be printed
-    Output(io::Error),
+    NotPrinted(io::Error),
 }
 
 impl fmt::Display for Stop {
@@ -55,7 +55,7 @@ impl fmt::Display for Stop {
         match self {
             Stop::Refused(refusal) => write!(f, "a drive refused its step with {refusal}"),
             Stop::LimitReached => write!(f, "not there after {LIMIT} ticks"),
-            Stop::Output(error) => write!(f, "{error}"),
+            Stop::NotPrinted(error) => write!(f, "{error}"),
         }
     }
 }
@@ -69,10 +69,10 @@ impl From<Refusal> for Stop {
 }
 
 impl From<io::Error> for Stop {
-    ghost from_gives = { λ error stop. stop ≡ Output error };
+    ghost from_gives = { λ error stop. stop ≡ NotPrinted error };
 
     fn from(error: io::Error) -> Stop {
-        Stop::Output(error)
+        Stop::NotPrinted(error)
     }
 }
 
