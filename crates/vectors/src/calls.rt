@@ -1,9 +1,9 @@
-// The calls of a drive, as data.
+// The calls of a drive, as data: a table has them, and each is printed as it is made. A closure could not be printed.
 ghost use Rattle.std.specs.Prelude.{◌≡◌};
 ghost use Rattle.vectors.specs.Calls.{call_answer, after_call};
 
 use drive::{Drive, Refusal};
-use std::io;
+use std::fmt;
 
 #[derive(Clone, Copy)]
 pub enum Call {
@@ -39,23 +39,28 @@ impl Call {
     }
 }
 
-pub fn print_call(rt: &impl Print, call: Call) -> io::Result<()> {
-    match call {
-        Call::Step(counts) => print!(rt; "step {counts}"),
-        Call::Feel(counts, true) => print!(rt; "feel {counts} ready"),
-        Call::Feel(counts, false) => print!(rt; "feel {counts} not ready"),
-        Call::Name(place) => print!(rt; "name {place}"),
-        Call::Wake => print!(rt; "wake"),
-        Call::Sleep => print!(rt; "sleep"),
+impl fmt::Display for Call {
+    fn fmt<W: fmt::Write>(&self, f: &mut fmt::Formatter<W>) -> fmt::Result {
+        match self {
+            Call::Step(counts) => write!(f, "step {counts}"),
+            Call::Feel(counts, true) => write!(f, "feel {counts} ready"),
+            Call::Feel(counts, false) => write!(f, "feel {counts} not ready"),
+            Call::Name(place) => write!(f, "name {place}"),
+            Call::Wake => f.write_str("wake"),
+            Call::Sleep => f.write_str("sleep"),
+        }
     }
 }
 
-pub fn print_answer(rt: &impl Print, answer: Result<(), Refusal>) -> io::Result<()> {
-    match answer {
-        Ok(()) => print!(rt; " taken, "),
-        Err(refusal) => {
-            let number = refusal.number();
-            print!(rt; " refused {number}, ")
+// What a drive answers a call.
+#[derive(Clone, Copy)]
+pub struct Response(pub Result<(), Refusal>);
+
+impl fmt::Display for Response {
+    fn fmt<W: fmt::Write>(&self, f: &mut fmt::Formatter<W>) -> fmt::Result {
+        match self.0 {
+            Ok(()) => f.write_str("taken"),
+            Err(refusal) => write!(f, "refused {refusal}"),
         }
     }
 }

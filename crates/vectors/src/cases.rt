@@ -1,12 +1,18 @@
 // What the subjects share.
 ghost use Rattle.std.specs.Prelude.{◌≡◌};
 
-use std::io;
+use std::{fmt, io};
 use words::{AxisId, Fault, Word, WordPair};
 
 // Two words of a block, one after the other.
 #[derive(Clone, Copy)]
 pub struct Pair(pub u16, pub u16);
+
+impl fmt::Display for Pair {
+    fn fmt<W: fmt::Write>(&self, f: &mut fmt::Formatter<W>) -> fmt::Result {
+        write!(f, "{:04X} {:04X}", self.0, self.1)
+    }
+}
 
 // Where the two words of a case stand, which a refusal has to name.
 #[derive(Clone, Copy)]
@@ -18,7 +24,8 @@ pub struct Place {
 
 impl Place {
     pub fn words(self, pair: Pair) -> WordPair
-        ensures { result ≡ record { first = record { bits = pair.0; axis = self.axis; index = self.first }; second = record { bits = pair.1; axis = self.axis; index = self.second } } }
+        ensures first { result.first ≡ record { bits = pair.0; axis = self.axis; index = self.first } }
+        ensures second { result.second ≡ record { bits = pair.1; axis = self.axis; index = self.second } }
     {
         let word = |bits, index| Word {
             bits,
@@ -32,14 +39,35 @@ impl Place {
     }
 }
 
-pub fn print_pair(rt: &impl Print, subject: &str, pair: Pair) -> io::Result<()> {
-    let Pair(first, second) = pair;
-    print!(rt; "{subject} {first:04X} {second:04X} ")
+// What words read as, or why they are refused.
+#[derive(Clone, Copy, Drop)]
+pub struct Answer<T>(pub Result<T, Fault>);
+
+impl<T: fmt::Display> fmt::Display for Answer<T> {
+    fn fmt<W: fmt::Write>(&self, f: &mut fmt::Formatter<W>) -> fmt::Result {
+        match &self.0 {
+            Ok(value) => write!(f, "= {value}"),
+            Err(fault) => write!(f, "refused {fault}"),
+        }
+    }
 }
 
-pub fn print_fault(rt: &impl Print, fault: Fault) -> io::Result<()> {
-    let question = fault.question.number();
-    let axis = fault.axis_number();
-    let word = fault.word;
-    println!(rt; "refused {question} {axis} {word}")
+// Reads each pair of words at the place, and prints the answer.
+pub(crate) fn print_answers<T, F>(
+    rt: &impl Print,
+    subject: &str,
+    place: Place,
+    pairs: &[Pair],
+    read: F,
+) -> io::Result<()>
+where
+    T: fmt::Display + Drop,
+    F: Fn(WordPair) -> Result<T, Fault>,
+    requires { F.IsAlwaysCallable read }
+{
+    for pair in pairs {
+        let answer = Answer(read(place.words(*pair)));
+        println!(rt; "{subject} {pair} {answer}")?;
+    }
+    Ok(())
 }

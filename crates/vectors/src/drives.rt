@@ -1,7 +1,9 @@
 // One call of a drive that stands somewhere, tried on the analog drive and on a reversed mount over one.
-use crate::calls::{Call, print_answer, print_call};
+ghost use Rattle.std.specs.Prelude.{◌≡◌};
+
+use crate::calls::{Call, Response};
 use drive::{Analog, Drive, Reversed};
-use std::io;
+use std::{fmt, io};
 
 // A new drive is named the place and woken; then its encoder reports the counts, whose negative is the gap, and whether the
 // power stage is ready, without which it sleeps. What follows is the call.
@@ -49,39 +51,78 @@ const CASES: [Case; 33] = [
     Case(-40, -700, false, Call::Sleep),
 ];
 
-pub fn print_drives(rt: &impl Print) -> io::Result<()> {
-    for case in CASES {
-        let mut analog = Analog::new(0, 0);
-        print!(rt; "analog ")?;
-        print_case(rt, &mut analog, case)?;
-        println!(rt; "")?;
-        let mut mount = Reversed::new(Analog::new(0, 0));
-        print!(rt; "reversed ")?;
-        print_case(rt, &mut mount, case)?;
-        print!(rt; ", below ")?;
-        print_values(rt, mount.below())?;
-        println!(rt; "")?;
+// What a drive shows of itself.
+#[derive(Clone, Copy)]
+struct Shown {
+    place: i32,
+    gap: i32,
+    awake: bool,
+}
+
+impl Shown {
+    fn of<D: Drive>(drive: &D) -> Shown
+        ensures { result ≡ record { place = (D.meaning drive.now).place; gap = (D.meaning drive.now).gap; awake = (D.meaning drive.now).awake } }
+    {
+        Shown {
+            place: drive.place(),
+            gap: drive.gap(),
+            awake: drive.awake(),
+        }
     }
-    Ok(())
+}
+
+impl fmt::Display for Shown {
+    fn fmt<W: fmt::Write>(&self, f: &mut fmt::Formatter<W>) -> fmt::Result {
+        let awake = if self.awake { "awake" } else { "asleep" };
+        write!(f, "place {} gap {} {awake}", self.place, self.gap)
+    }
 }
 
 // What the drive shows before the call, the call with its answer, and what the drive shows then.
-fn print_case<D: Drive>(rt: &impl Print, drive: &mut D, case: Case) -> io::Result<()> {
-    let Case(place, counts, ready, call) = case;
-    let _ = drive.name(place);
-    drive.wake();
-    drive.feel(counts, ready);
-    print_values(rt, drive)?;
-    print!(rt; ", ")?;
-    print_call(rt, call)?;
-    let answer = call.make(drive);
-    print_answer(rt, answer)?;
-    print_values(rt, drive)
+#[derive(Clone, Copy)]
+struct Trial {
+    before: Shown,
+    call: Call,
+    answer: Response,
+    after: Shown,
 }
 
-fn print_values<D: Drive>(rt: &impl Print, drive: &D) -> io::Result<()> {
-    let place = drive.place();
-    let gap = drive.gap();
-    let awake = if drive.awake() { "awake" } else { "asleep" };
-    print!(rt; "place {place} gap {gap} {awake}")
+impl fmt::Display for Trial {
+    fn fmt<W: fmt::Write>(&self, f: &mut fmt::Formatter<W>) -> fmt::Result {
+        let Trial {
+            before,
+            call,
+            answer,
+            after,
+        } = self;
+        write!(f, "{before}, {call} {answer}, {after}")
+    }
+}
+
+impl Case {
+    fn run<D: Drive>(self, drive: &mut D) -> Trial {
+        let Case(place, counts, ready, call) = self;
+        let _ = drive.name(place);
+        drive.wake();
+        drive.feel(counts, ready);
+        Trial {
+            before: Shown::of(drive),
+            call,
+            answer: Response(call.make(drive)),
+            after: Shown::of(drive),
+        }
+    }
+}
+
+pub fn print_drives(rt: &impl Print) -> io::Result<()> {
+    for case in CASES {
+        let mut analog = Analog::new(0, 0);
+        let trial = case.run(&mut analog);
+        println!(rt; "analog {trial}")?;
+        let mut mount = Reversed::new(Analog::new(0, 0));
+        let trial = case.run(&mut mount);
+        let below = Shown::of(mount.below());
+        println!(rt; "reversed {trial}, below {below}")?;
+    }
+    Ok(())
 }

@@ -1,7 +1,7 @@
 // Dwells, read as words 60 and 61 of a moveset of axis 1.
-use crate::cases::{Pair, Place, print_fault, print_pair};
+use crate::cases::{Pair, Place, print_answers};
 use std::io;
-use words::AxisId;
+use words::{AxisId, WordPair};
 
 const PLACE: Place = Place {
     axis: AxisId::One,
@@ -49,12 +49,5 @@ const DWELLS: [Pair; 33] = [
 ];
 
 pub fn print_dwells(rt: &impl Print) -> io::Result<()> {
-    for pair in DWELLS {
-        print_pair(rt, "dwell", pair)?;
-        match PLACE.words(pair).read_dwell() {
-            Ok(milliseconds) => println!(rt; "= {milliseconds}")?,
-            Err(fault) => print_fault(rt, fault)?,
-        }
-    }
-    Ok(())
+    print_answers(rt, "dwell", PLACE, &DWELLS, WordPair::read_dwell)
 }

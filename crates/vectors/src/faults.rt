@@ -29,17 +29,27 @@ const AXES: [(AxisId, &str); 3] = [
 ];
 
 pub fn print_questions(rt: &impl Print) -> io::Result<()> {
-    for (question, name) in QUESTIONS {
-        let number = question.number();
-        println!(rt; "question {name} = {number}")?;
-    }
-    Ok(())
+    print_numbers(rt, "question", &QUESTIONS, Question::number)
 }
 
 pub fn print_axes(rt: &impl Print) -> io::Result<()> {
-    for (axis, name) in AXES {
-        let number = axis.number();
-        println!(rt; "axis {name} = {number}")?;
+    print_numbers(rt, "axis", &AXES, AxisId::number)
+}
+
+fn print_numbers<T, F>(
+    rt: &impl Print,
+    subject: &str,
+    named: &[(T, &str)],
+    number: F,
+) -> io::Result<()>
+where
+    T: Copy,
+    F: Fn(T) -> u8,
+    requires { F.IsAlwaysCallable number }
+{
+    for (thing, name) in named {
+        let number = number(*thing);
+        println!(rt; "{subject} {name} = {number}")?;
     }
     Ok(())
 }

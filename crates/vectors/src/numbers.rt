@@ -1,5 +1,5 @@
 // Number words, read as word 9 of a record of axis 1.
-use crate::cases::print_fault;
+use crate::cases::Answer;
 use std::io;
 use words::{AxisId, Word};
 
@@ -12,16 +12,13 @@ const NUMBERS: [u16; 22] = [
 
 pub fn print_numbers(rt: &impl Print) -> io::Result<()> {
     for bits in NUMBERS {
-        print!(rt; "number {bits:04X} ")?;
         let word = Word {
             bits,
             axis: AxisId::One,
             index: 9,
         };
-        match word.four_digits() {
-            Ok(value) => println!(rt; "= {value}")?,
-            Err(fault) => print_fault(rt, fault)?,
-        }
+        let answer = Answer(word.four_digits());
+        println!(rt; "number {bits:04X} {answer}")?;
     }
     Ok(())
 }

@@ -1,7 +1,7 @@
 // Outputs of the analog drive, and what becomes of its latest step.
-use crate::calls::{Call, print_answer, print_call};
+use crate::calls::{Call, Response};
 use drive::{Analog, Drive};
-use std::io;
+use std::{fmt, io};
 
 // The gains, a place to be named, a step from there, and what the encoder then reports.
 #[derive(Clone, Copy)]
@@ -48,6 +48,19 @@ const AFTER_A_STEP: [Call; 10] = [
     Call::Name(-19_999_999),
 ];
 
+// What an analog drive shows of its output.
+#[derive(Clone, Copy)]
+struct Shown(Analog);
+
+impl fmt::Display for Shown {
+    fn fmt<W: fmt::Write>(&self, f: &mut fmt::Formatter<W>) -> fmt::Result {
+        let gap = self.0.gap();
+        let latest = self.0.latest_step();
+        let output = self.0.output();
+        write!(f, "gap {gap} latest step {latest} = {output}")
+    }
+}
+
 pub fn print_outputs(rt: &impl Print) -> io::Result<()> {
     for Case(k1, k2, place, step, counts) in OUTPUTS {
         let mut drive = Analog::new(k1, k2);
@@ -55,8 +68,8 @@ pub fn print_outputs(rt: &impl Print) -> io::Result<()> {
         drive.wake();
         let _ = drive.step(step);
         drive.feel(counts, true);
-        print!(rt; "output of gains {k1} {k2} at ")?;
-        print_output(rt, &drive)?;
+        let shown = Shown(drive);
+        println!(rt; "output of gains {k1} {k2} at {shown}")?;
     }
     Ok(())
 }
@@ -66,18 +79,9 @@ pub fn print_latest_steps(rt: &impl Print) -> io::Result<()> {
         let mut drive = Analog::new(1_000, 1_000);
         drive.wake();
         let _ = drive.step(8);
-        print!(rt; "after a step of 8 ")?;
-        print_call(rt, call)?;
-        let answer = call.make(&mut drive);
-        print_answer(rt, answer)?;
-        print_output(rt, &drive)?;
+        let answer = Response(call.make(&mut drive));
+        let shown = Shown(drive);
+        println!(rt; "after a step of 8 {call} {answer}, {shown}")?;
     }
     Ok(())
-}
-
-fn print_output(rt: &impl Print, drive: &Analog) -> io::Result<()> {
-    let gap = drive.gap();
-    let latest = drive.latest_step();
-    let output = drive.output();
-    println!(rt; "gap {gap} latest step {latest} = {output}")
 }

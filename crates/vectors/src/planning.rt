@@ -1,6 +1,6 @@
 // Braking distances and planned speeds.
 use motion::{Rates, braking_distance};
-use std::io;
+use std::{fmt, io};
 
 // A speed and a deceleration.
 #[derive(Clone, Copy)]
@@ -78,11 +78,10 @@ const SLOWED: [Brake; 6] = [
 ];
 
 pub fn print_distances(rt: &impl Print) -> io::Result<()> {
-    for Brake(speed, deceleration) in DISTANCES {
-        let distance = braking_distance(speed, deceleration);
-        println!(rt; "braking distance {speed} at {deceleration} = {distance}")?;
-    }
-    Ok(())
+    // By its name alone, a function of a private module of `motion` gets no proof here.
+    print_brakes(rt, "braking distance", &DISTANCES, |speed, deceleration| {
+        braking_distance(speed, deceleration)
+    })
 }
 
 pub fn print_plans(rt: &impl Print) -> io::Result<()> {
@@ -101,14 +100,26 @@ pub fn print_plans(rt: &impl Print) -> io::Result<()> {
 }
 
 pub fn print_slowed(rt: &impl Print) -> io::Result<()> {
-    for Brake(speed, deceleration) in SLOWED {
+    print_brakes(rt, "slowed", &SLOWED, |speed, deceleration| {
         let rates = Rates {
             feedrate: 1,
             acceleration: 1,
             deceleration,
         };
-        let slowed = rates.slowed(speed);
-        println!(rt; "slowed {speed} at {deceleration} = {slowed}")?;
+        rates.slowed(speed)
+    })
+}
+
+// Prints what comes of each speed and deceleration.
+fn print_brakes<T, F>(rt: &impl Print, subject: &str, brakes: &[Brake], of: F) -> io::Result<()>
+where
+    T: fmt::Display + Drop,
+    F: Fn(u16, u16) -> T,
+    requires { F.IsAlwaysCallable of }
+{
+    for Brake(speed, deceleration) in brakes {
+        let answer = of(*speed, *deceleration);
+        println!(rt; "{subject} {speed} at {deceleration} = {answer}")?;
     }
     Ok(())
 }

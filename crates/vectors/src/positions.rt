@@ -1,7 +1,7 @@
 // Positions without an incremental mark, read as words 3 and 4 of a record of axis 2; and positions written.
-use crate::cases::{Pair, Place, print_fault, print_pair};
+use crate::cases::{Pair, Place, print_answers};
 use std::io;
-use words::{AxisId, PositionWords, write_position};
+use words::{AxisId, PositionWords, WordPair, write_position};
 
 const PLACE: Place = Place {
     axis: AxisId::Two,
@@ -89,14 +89,7 @@ const WRITTEN: [i32; 23] = [
 ];
 
 pub fn print_positions(rt: &impl Print) -> io::Result<()> {
-    for pair in POSITIONS {
-        print_pair(rt, "position", pair)?;
-        match PLACE.words(pair).read_position() {
-            Ok(counts) => println!(rt; "= {counts}")?,
-            Err(fault) => print_fault(rt, fault)?,
-        }
-    }
-    Ok(())
+    print_answers(rt, "position", PLACE, &POSITIONS, WordPair::read_position)
 }
 
 pub fn print_written(rt: &impl Print) -> io::Result<()> {

@@ -1,6 +1,6 @@
 // The positions of moves, which may be incremental, read as words 2 and 3 of a moveset of axis 3.
-use crate::cases::{Pair, Place, print_fault, print_pair};
-use std::io;
+use crate::cases::{Pair, Place, print_answers};
+use std::{fmt, io};
 use words::{AxisId, Target};
 
 const PLACE: Place = Place {
@@ -48,14 +48,25 @@ const TARGETS: [Pair; 32] = [
     Pair(0xFFFF, 0xFFFF),
 ];
 
-pub fn print_targets(rt: &impl Print) -> io::Result<()> {
-    for pair in TARGETS {
-        print_pair(rt, "target", pair)?;
-        match PLACE.words(pair).read_target() {
-            Ok(Target::Absolute(counts)) => println!(rt; "= {counts}")?,
-            Ok(Target::Incremental(counts)) => println!(rt; "= {counts} incremental")?,
-            Err(fault) => print_fault(rt, fault)?,
+// A target as its counts, marked where they are incremental.
+#[derive(Clone, Copy)]
+struct Counts(Target);
+
+impl fmt::Display for Counts {
+    fn fmt<W: fmt::Write>(&self, f: &mut fmt::Formatter<W>) -> fmt::Result {
+        match self.0 {
+            Target::Absolute(counts) => write!(f, "{counts}"),
+            Target::Incremental(counts) => write!(f, "{counts} incremental"),
         }
     }
-    Ok(())
+}
+
+pub fn print_targets(rt: &impl Print) -> io::Result<()> {
+    print_answers(
+        rt,
+        "target",
+        PLACE,
+        &TARGETS,
+        |pair| pair.read_target().map(Counts),
+    )
 }

@@ -1,4 +1,3 @@
-mod Spelling
 mod Sizes
 mod Underway
 mod Rounds

@@ -7,12 +7,13 @@ use Rattle.motion.proofs.Laws.{planning_laws}
 use Rattle.drive.specs.declared.refusal.Refusal.{Refusal}
 use Rattle.drive.specs.Values.{Within, reach_ceiling, is_beyond, held}
 use Rattle.winder.specs.declared.bench.Bench.{Bench}
-use Rattle.winder.specs.declared.travel.Direction.{Direction}
-use Rattle.winder.specs.declared.travel.Direction.TheVariants.{Plus, Minus}
+use Rattle.moves.specs.declared.state.Direction.{Direction}
+use Rattle.moves.specs.declared.state.Direction.TheVariants.{Plus, Minus}
+use Rattle.moves.specs.State.{signed}
 use Rattle.winder.specs.Benches.{analog_state, reversed_state, Ticked, Done, both_answers, analog_reading, reversed_reading}
 use Rattle.winder.specs.Runs.{Reachable, Standing}
 use Rattle.winder.specs.Servos.{ServoState, servo_answer, servo_ticked}
-use Rattle.winder.specs.Travel.{toward, next_speed, next_step}
+use Rattle.winder.specs.Travel.{next_speed, next_step}
 
 -- awake at p, with the latest step g not yet reported
 abbrev pub between_ticks : ℤ → ℤ → ServoState
@@ -40,26 +41,26 @@ step_done p g s h k =
 
 -- What is left leads to z from p, and the drives stand at p between two ticks.
 pub record Underway (z p : ℤ) (b : Bench) : Type 0 where
-  pub remaining : p +ℤ toward b.travel.direction b.travel.left ≡ z
+  pub remaining : p +ℤ signed b.travel.direction b.travel.left ≡ z
   pub reachable : Reachable p
   pub speed_fits : b.travel.speed < 2 ^ 16
-  pub analog : analog_state b ≡ between_ticks p (toward b.travel.direction b.travel.speed)
-  pub reversed : reversed_state b ≡ between_ticks p (toward b.travel.direction b.travel.speed)
+  pub analog : analog_state b ≡ between_ticks p (signed b.travel.direction b.travel.speed)
+  pub reversed : reversed_state b ≡ between_ticks p (signed b.travel.direction b.travel.speed)
 
 -- A step that way of no more than is left does not pass the end.
-halfway : (d : Direction) (p : ℤ) (left w : ℕ) → w ≤ left → Reachable p → Reachable (p +ℤ toward d left) → Reachable (p +ℤ toward d w)
+halfway : (d : Direction) (p : ℤ) (left w : ℕ) → w ≤ left → Reachable p → Reachable (p +ℤ signed d left) → Reachable (p +ℤ signed d w)
 halfway Plus p left w h a b = (omega (arith, ints), omega (arith, ints))
 halfway Minus p left w h a b = (omega (arith, ints), omega (arith, ints))
 
 -- The rest leads on from there.
-onward : (d : Direction) (p : ℤ) (left w : ℕ) → w ≤ left → (p +ℤ toward d w) +ℤ toward d (left - w) ≡ p +ℤ toward d left
+onward : (d : Direction) (p : ℤ) (left w : ℕ) → w ≤ left → (p +ℤ signed d w) +ℤ signed d (left - w) ≡ p +ℤ signed d left
 onward Plus p left w h = omega (arith, ints)
 onward Minus p left w h = omega (arith, ints)
 
 -- A speed of 16 bits is a small step.
-toward_small : (d : Direction) (w : ℕ) → w < 2 ^ 16 → Small (toward d w)
-toward_small Plus w h = (omega (arith, ints), omega (arith, ints))
-toward_small Minus w h = (omega (arith, ints), omega (arith, ints))
+signed_small : (d : Direction) (w : ℕ) → w < 2 ^ 16 → Small (signed d w)
+signed_small Plus w h = (omega (arith, ints), omega (arith, ints))
+signed_small Minus w h = (omega (arith, ints), omega (arith, ints))
 
 -- Where both drives took the step, the bench answers it.
 both_taken : (x y : Result (Unit {0}) Refusal) (s : ℤ) → x ≡ Ok tt → y ≡ Ok tt → both_answers x y s ≡ Ok s
@@ -103,16 +104,16 @@ module _ (z p : ℤ) (rates : Rates) (before after : Bench) (r : Result ℤ Refu
   -- Both drives take the step.
   pub tick_taken : r ≡ Ok s
   tick_taken =
-      t.answer ∙ both_taken _ _ s (ap (λ x. servo_answer x s) u.analog ∙ step_taken p (toward d v) s there) (ap (λ x. servo_answer x s) u.reversed ∙ step_taken p (toward d v) s there)
+      t.answer ∙ both_taken _ _ s (ap (λ x. servo_answer x s) u.analog ∙ step_taken p (signed d v) s there) (ap (λ x. servo_answer x s) u.reversed ∙ step_taken p (signed d v) s there)
 
   -- The move stays under way.
   pub tick_goes_on : rates.feedrate < 2 ^ 16 → Underway z (p +ℤ s) after
   tick_goes_on f =
       let fits : w < 2 ^ 16 = omega (arith, u.speed_fits, planning_laws.at_most_feedrate_or_speed rates v left w planned) in
-      let stands = step_done p (toward d v) s there (toward_small d w fits) in
-      let shown = sym (ap (λ m. between_ticks (p +ℤ s) (toward m.direction m.speed)) t.travel) in
+      let stands = step_done p (signed d v) s there (signed_small d w fits) in
+      let shown = sym (ap (λ m. between_ticks (p +ℤ s) (signed m.direction m.speed)) t.travel) in
       record {
-        remaining = ap (λ m. (p +ℤ s) +ℤ toward m.direction m.left) t.travel ∙ onward d p left w planned_fits ∙ u.remaining;
+        remaining = ap (λ m. (p +ℤ s) +ℤ signed m.direction m.left) t.travel ∙ onward d p left w planned_fits ∙ u.remaining;
         reachable = there;
         speed_fits = subst (λ x. x < 2 ^ 16) (sym (ap (λ m. m.speed) t.travel)) fits;
         analog = t.analog ∙ ap (λ x. servo_ticked x s) u.analog ∙ stands ∙ shown;
@@ -120,7 +121,7 @@ module _ (z p : ℤ) (rates : Rates) (before after : Bench) (r : Result ℤ Refu
       }
 
 -- No counts are no step, whichever way.
-no_counts : (d : Direction) (n : ℕ) → n ≡ 0 → toward d n ≡ pos 0
+no_counts : (d : Direction) (n : ℕ) → n ≡ 0 → signed d n ≡ pos 0
 no_counts Plus n e = omega (arith, ints)
 no_counts Minus n e = omega (arith, ints)
 
@@ -146,7 +147,7 @@ module _ (z : ℤ) (tick : ℕ) (rates : Rates) (before after : Bench) (r : Resu
   pub arrives : rates.feedrate < 2 ^ 16 → Done after → Standing z (analog_reading after) × Standing z (reversed_reading after) × (tick ≤ nat_abs z + 1)
   arrives f done =
       let u : Underway z p after = tick_goes_on z o.place rates before after r t h o.underway f in
-      let none : toward after.travel.direction after.travel.left ≡ pos 0 = no_counts _ _ done.left in
+      let none : signed after.travel.direction after.travel.left ≡ pos 0 = no_counts _ _ done.left in
       let at : p ≡ z = omega (arith, ints, u.remaining) in (
         record { place = ap (λ x. x.values.place) u.analog ∙ at; gap = done.analog_gap },
         record { place = ap (λ x. x.values.place) u.reversed ∙ at; gap = done.reversed_gap },

@@ -5,10 +5,11 @@ use Rattle.drive.specs.declared.analog.Analog.{Analog}
 use Rattle.drive.specs.declared.refusal.Refusal.{Refusal}
 use Rattle.drive.specs.Analog.{analog_values, output_state}
 use Rattle.drive.specs.Mirror.{reversed_values}
-use Rattle.drive.specs.Output.{output_value, new_output}
-use Rattle.drive.specs.Values.{Values, new_drive, after_wake, reach_ceiling}
+use Rattle.drive.specs.Output.{new_output}
+use Rattle.drive.specs.Values.{new_drive, after_wake, reach_ceiling}
 use Rattle.winder.specs.declared.bench.Bench.{Bench}
-use Rattle.winder.specs.declared.bench.Reading.{Reading}
+use Rattle.winder.specs.declared.reading.Reading.{Reading}
+use Rattle.winder.specs.Readings.{reading}
 use Rattle.winder.specs.Servos.{ServoState, servo_state, servo_new, servo_answer, servo_ticked}
 use Rattle.winder.specs.Travel.{advanced, next_step, new_move}
 
@@ -50,10 +51,7 @@ pub record Done (b : Bench) : Type 0 where
   pub analog_gap : (analog_state b).values.gap ≡ pos 0
   pub reversed_gap : (reversed_state b).values.gap ≡ pos 0
 
--- what is read off the drive a, whose place and gap are read as those of v
-abbrev pub reading : Values → Analog → Reading
-reading v a = record { place = v.place; gap = v.gap; output = output_value (output_state a) (analog_values a).gap }
-
+-- what is read off the drive that moves with no mount, and off the mounted one: its output is that of the drive behind the mount
 abbrev pub analog_reading : Bench → Reading
 analog_reading b = reading (analog_state b).values b.analog.drive
 

@@ -1,6 +1,5 @@
 -- How the winding of the axis ends.
 use Rattle.std.specs.Prelude.{◌≡◌, ℕ, Bool, true, false, Some, None, Option}
-use Rattle.moves.specs.Numbers.{noted_number}
 use Rattle.winder.specs.declared.axis_run.Ending.{Ending}
 use Rattle.winder.specs.Orders.{is_over}
 use Rattle.winder.specs.Winding.{Station, after_ticks}
@@ -13,7 +12,7 @@ pub record Told (e : Ending) (s : Station) : Type 0 where
   pub over : is_over s.axis.state ≡ true
   pub last_endpoint : e.last_endpoint ≡ s.axis.state.coordinates.last_endpoint
   pub place : e.place ≡ s.axis.drive.place
-  pub noted : e.noted ≡ noted_number s.axis.state.note
+  pub note : e.note ≡ s.axis.state.note
 
 -- told of the axis after its ticks; none where it was not over after 200
 abbrev pub Ends : Option Ending → Type 0

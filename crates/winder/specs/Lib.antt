@@ -1,6 +1,7 @@
 pub mod Arguments
 pub mod Travel
 pub mod Servos
+pub mod Readings
 pub mod Benches
 pub mod Runs
 pub mod Settings

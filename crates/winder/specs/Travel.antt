@@ -1,15 +1,10 @@
 -- How a move goes on from tick to tick.
-use Rattle.std.specs.Prelude.{ℕ, ◌-◌, cond, ℤ, pos, neg_ℤ, int_lt, unsigned_abs}
+use Rattle.std.specs.Prelude.{ℕ, ◌-◌, cond, ℤ, pos, int_lt, unsigned_abs}
 use Rattle.motion.specs.declared.rates.Rates.{Rates}
 use Rattle.motion.specs.Planning.{planned_speed}
-use Rattle.winder.specs.declared.travel.Direction.{Direction}
-use Rattle.winder.specs.declared.travel.Direction.TheVariants.{Plus, Minus}
+use Rattle.moves.specs.declared.state.Direction.TheVariants.{Plus, Minus}
+use Rattle.moves.specs.State.{signed}
 use Rattle.winder.specs.declared.travel.Move.{Move}
-
--- so many counts that way
-abbrev pub toward : Direction → ℕ → ℤ
-toward Plus n = pos n
-toward Minus n = neg_ℤ (pos n)
 
 -- a move by z counts that has not begun
 abbrev pub new_move : ℤ → Move
@@ -20,7 +15,7 @@ abbrev pub next_speed : Rates → Move → ℕ
 next_speed rates m = planned_speed rates m.speed m.left
 
 abbrev pub next_step : Rates → Move → ℤ
-next_step rates m = toward m.direction (next_speed rates m)
+next_step rates m = signed m.direction (next_speed rates m)
 
 abbrev pub advanced : Rates → Move → Move
 advanced rates m = record { left = m.left - next_speed rates m; speed = next_speed rates m; direction = m.direction }

@@ -1,17 +1,16 @@
 -- One axis wound tick by tick: the reference axis with what its encoder has yet to report.
 use Rattle.std.specs.Prelude.{ℕ, zero, suc, ◌+◌, ℤ, pos, ◌-ℤ◌, Some, None, Option}
-use Rattle.drive.specs.Analog.{analog_values, output_state}
-use Rattle.drive.specs.Output.{output_value}
+use Rattle.drive.specs.Analog.{analog_values}
 use Rattle.drive.specs.Values.{new_drive, reach_ceiling}
 use Rattle.modes.specs.declared.commands.Command.TheVariants.{Begin}
 use Rattle.modes.specs.Commands.{with_moveset}
-use Rattle.moves.specs.Numbers.{mode_number, noted_number}
 use Rattle.moves.specs.State.{new_state}
 use Rattle.axis.specs.Reference.{Reference, over, tick, commanded, accepted}
 use Rattle.winder.specs.declared.orders.Order.{Order}
 use Rattle.winder.specs.declared.orders.Order.TheVariants.{SetParameters, Command, Wind}
 use Rattle.winder.specs.declared.winding.AxisReading.{AxisReading}
 use Rattle.winder.specs.declared.winding.Winding.{Winding}
+use Rattle.winder.specs.Readings.{reading}
 use Rattle.winder.specs.Orders.{next_order, input_at, step_given, reported}
 use Rattle.winder.specs.Settings.{winding_parameters, winding_moveset}
 
@@ -62,13 +61,11 @@ shown_of w = w.axis.drive.place -ℤ w.axis.control.state.coordinates.base
 abbrev pub reading_of : Winding → AxisReading
 reading_of w =
     record {
-      mode = mode_number w.axis.control.state.motion.mode;
-      place = w.axis.drive.place;
-      gap = w.axis.drive.gap;
-      output = output_value (output_state w.axis.drive) w.axis.drive.gap;
+      mode = w.axis.control.state.motion.mode;
+      drive = reading (analog_values w.axis.drive) w.axis.drive;
       shown = shown_of w;
       last_endpoint = w.axis.control.state.coordinates.last_endpoint;
-      noted = noted_number w.axis.control.state.note;
+      note = w.axis.control.state.note;
     }
 
 -- The axis after so many ticks, each with the order before it. It is shut where it is cited, so that no proof

@@ -5,36 +5,32 @@ ghost use Rattle.words.specs.Readings.{position_reading};
 ghost use Rattle.winder.specs.Arguments.{Spelled};
 ghost use Rattle.winder.specs.Runs.{Reachable};
 
-use words::{AxisId, Fault, Word, WordPair};
+use words::{AxisId, Fault, PositionWords, Word, WordPair};
 
 // A word of hexadecimal digits alone.
 pub fn hex_word(text: &str) -> Option<u16>
     ensures { Spelled text.now result }
 {
     // A plus sign is no digit, though the library takes it.
-    if let [b'+', ..] = text.as_bytes() {
+    if text.starts_with('+') {
         return None;
     }
-    match u16::from_str_radix(text, 16) {
-        Ok(bits) => Some(bits),
-        Err(_) => None,
-    }
+    u16::from_str_radix(text, 16).ok()
 }
 
 // The position that two words spell, read as words 0 and 1 of a block for axis 1.
-pub fn position(first: u16, second: u16) -> Result<i32, Fault>
-    ensures answer { result ≡ position_reading (record { bits = first; axis = One; index = 0 }) (record { bits = second; axis = One; index = 1 }) }
+pub fn position(words: PositionWords) -> Result<i32, Fault>
+    ensures answer { result ≡ position_reading (record { bits = words.first; axis = One; index = 0 }) (record { bits = words.second; axis = One; index = 1 }) }
     ensures within { IfOk result Reachable }
 {
-    let first = Word {
-        bits: first,
+    let word = |bits, index| Word {
+        bits,
         axis: AxisId::One,
-        index: 0,
+        index,
     };
-    let second = Word {
-        bits: second,
-        axis: AxisId::One,
-        index: 1,
+    let pair = WordPair {
+        first: word(words.first, 0),
+        second: word(words.second, 1),
     };
-    WordPair { first, second }.read_position()
+    pair.read_position()
 }

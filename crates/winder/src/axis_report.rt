@@ -1,47 +1,27 @@
 // What the program prints of the axis. No contract can speak of that, so all that is worked out comes from the other modules.
+ghost use Rattle.std.specs.Prelude.{◌≡◌};
+ghost use Rattle.moves.specs.Numbers.{noted_number};
+
 use crate::axis_run::{Ending, TICK_LIMIT, run_axis};
 use crate::orders::Order;
 use crate::settings::{AXIS_GAP_GAIN, AXIS_STEP_GAIN, moveset};
 use crate::winding::AxisReading;
 use modes::Command;
-use std::io;
+use moves::Note;
+use std::{fmt, io};
 
 pub fn wind_axis(rt: &impl Print) -> io::Result<()> {
     println!(rt; "axis 1 winds; gains {AXIS_GAP_GAIN} and {AXIS_STEP_GAIN}")?;
     match run_axis(rt)? {
-        Some(ending) => print_ending(rt, ending),
+        Some(ending) => println!(rt; "{ending}"),
         None => println!(rt; "stopped: not wound after {TICK_LIMIT} ticks"),
     }
 }
 
 pub fn print_order(rt: &impl Print, order: Option<Order>) -> io::Result<()> {
     match order {
-        Some(Order::SetParameters) => println!(rt; "parameters"),
-        Some(Order::Command(command)) => {
-            let code = command.code();
-            let name = command_name(command);
-            println!(rt; "command {code}, {name}")
-        }
-        Some(Order::Wind) => {
-            let count = moveset().count;
-            let code = Command::Begin.code();
-            let name = command_name(Command::Begin);
-            println!(rt; "moveset of {count} moves; command {code}, {name}")
-        }
+        Some(order) => println!(rt; "{order}"),
         None => Ok(()),
-    }
-}
-
-fn command_name(command: Command) -> &'static str {
-    match command {
-        Command::Begin => "begin",
-        Command::Start => "start",
-        Command::SlideStop => "slide stop",
-        Command::SearchHome => "search home",
-        Command::JogForward => "jog forward",
-        Command::JogReverse => "jog reverse",
-        Command::Reset => "reset",
-        Command::Override(_) => "override",
     }
 }
 
@@ -49,26 +29,84 @@ pub fn print_axis_tick(
     rt: &impl Print,
     tick: u32,
     step: Option<i32>,
-    reading: AxisReading,
+    reading: &AxisReading,
 ) -> io::Result<()> {
-    let mode = reading.mode;
-    print!(rt; "tick {tick}: mode {mode}, ")?;
-    match step {
-        Some(counts) => print!(rt; "step {counts}; ")?,
-        None => print!(rt; "no step; ")?,
-    }
-    let (place, gap, output) = (reading.place, reading.gap, reading.output);
-    let (shown, noted) = (reading.shown, reading.noted);
-    println!(rt; "place {place}, gap {gap}, output {output}; shown {shown}, noted {noted}")
+    let mode = reading.mode.number();
+    let step = Given(step);
+    println!(rt; "tick {tick}: mode {mode}, {step}; {reading}")
 }
 
-fn print_ending(rt: &impl Print, ending: Ending) -> io::Result<()> {
-    let (ticks, noted) = (ending.ticks, ending.noted);
-    let (last_endpoint, place) = (ending.last_endpoint, ending.place);
-    if noted == 0 {
-        print!(rt; "wound in {ticks} ticks: ")?;
-    } else {
-        print!(rt; "stopped after {ticks} ticks with {noted}: ")?;
+// The number that the status shows of a note: 0 for none.
+fn noted_number(note: Option<Note>) -> u8
+    ensures { result ≡ noted_number note }
+{
+    note.map_or(0, Note::number)
+}
+
+// A command by its code and its name.
+#[derive(Clone, Copy)]
+struct Named(Command);
+
+impl fmt::Display for Named {
+    fn fmt<W: fmt::Write>(&self, f: &mut fmt::Formatter<W>) -> fmt::Result {
+        let name = match self.0 {
+            Command::Begin => "begin",
+            Command::Start => "start",
+            Command::SlideStop => "slide stop",
+            Command::SearchHome => "search home",
+            Command::JogForward => "jog forward",
+            Command::JogReverse => "jog reverse",
+            Command::Reset => "reset",
+            Command::Override(_) => "override",
+        };
+        write!(f, "command {}, {name}", self.0.code())
     }
-    println!(rt; "last endpoint {last_endpoint}, place {place}")
+}
+
+impl fmt::Display for Order {
+    fn fmt<W: fmt::Write>(&self, f: &mut fmt::Formatter<W>) -> fmt::Result {
+        match self {
+            Order::SetParameters => f.write_str("parameters"),
+            Order::Command(command) => write!(f, "{}", Named(*command)),
+            Order::Wind => {
+                let count = moveset().count;
+                write!(f, "moveset of {count} moves; {}", Named(Command::Begin))
+            }
+        }
+    }
+}
+
+// The step of a tick, if one was given.
+#[derive(Clone, Copy)]
+struct Given(Option<i32>);
+
+impl fmt::Display for Given {
+    fn fmt<W: fmt::Write>(&self, f: &mut fmt::Formatter<W>) -> fmt::Result {
+        match self.0 {
+            Some(counts) => write!(f, "step {counts}"),
+            None => f.write_str("no step"),
+        }
+    }
+}
+
+impl fmt::Display for AxisReading {
+    fn fmt<W: fmt::Write>(&self, f: &mut fmt::Formatter<W>) -> fmt::Result {
+        let noted = noted_number(self.note);
+        write!(f, "{}; shown {}, noted {noted}", self.drive, self.shown)
+    }
+}
+
+impl fmt::Display for Ending {
+    fn fmt<W: fmt::Write>(&self, f: &mut fmt::Formatter<W>) -> fmt::Result {
+        let ticks = self.ticks;
+        match self.note {
+            None => write!(f, "wound in {ticks} ticks: ")?,
+            Some(note) => write!(f, "stopped after {ticks} ticks with {}: ", note.number())?,
+        }
+        write!(
+            f,
+            "last endpoint {}, place {}",
+            self.last_endpoint, self.place
+        )
+    }
 }

@@ -4,6 +4,7 @@ ghost use Rattle.winder.specs.Endings.{Ends};
 
 use crate::axis_report::{print_axis_tick, print_order};
 use crate::winding::Winding;
+use moves::Note;
 use std::io;
 
 // More ticks than the moveset takes.
@@ -15,7 +16,7 @@ pub struct Ending {
     pub ticks: u32,
     pub last_endpoint: i64,
     pub place: i32,
-    pub noted: u8,
+    pub note: Option<Note>,
 }
 
 // Winds and prints each tick. None where the limit was reached first.
@@ -23,18 +24,18 @@ pub fn run_axis(rt: &impl Print) -> io::Result<Option<Ending>>
     ensures { IfOk result Ends }
 {
     let mut winding = Winding::new();
-    for ticks in 0..TICK_LIMIT {
+    for tick in 1..=TICK_LIMIT {
         let order = winding.give_order();
         print_order(rt, order)?;
-        let step = winding.tick(ticks + 1);
+        let step = winding.tick(tick);
         let reading = winding.reading();
-        print_axis_tick(rt, ticks + 1, step, reading)?;
+        print_axis_tick(rt, tick, step, &reading)?;
         if winding.is_over() {
             return Ok(Some(Ending {
-                ticks: ticks + 1,
+                ticks: tick,
                 last_endpoint: reading.last_endpoint,
-                place: reading.place,
-                noted: reading.noted,
+                place: reading.drive.place,
+                note: reading.note,
             }));
         }
     }

@@ -1,6 +1,6 @@
 // One move on two drives.
-ghost use Rattle.std.specs.Prelude.{◌≡◌, Decides};
-ghost use Rattle.winder.specs.Benches.{Begun, Ticked, Done, analog_reading, reversed_reading};
+ghost use Rattle.std.specs.Prelude.{Decides};
+ghost use Rattle.winder.specs.Benches.{Begun, Ticked, Done};
 
 use crate::servo::Servo;
 use crate::travel::Move;
@@ -17,14 +17,6 @@ pub struct Bench {
     pub travel: Move,
     pub analog: Servo<Analog>,
     pub reversed: Servo<Reversed<Analog>>,
-}
-
-// What is read off a drive after a tick.
-#[derive(Clone, Copy)]
-pub struct Reading {
-    pub place: i32,
-    pub gap: i32,
-    pub output: i16,
 }
 
 impl Bench {
@@ -59,28 +51,5 @@ impl Bench {
     {
         let at_rest = self.travel.left == 0 && self.travel.speed == 0;
         at_rest && self.analog.drive.gap() == 0 && self.reversed.drive.gap() == 0
-    }
-
-    pub fn analog_reading(&self) -> Reading
-        ensures { result ≡ analog_reading self.now }
-    {
-        let drive = self.analog.drive;
-        Reading {
-            place: drive.place(),
-            gap: drive.gap(),
-            output: drive.output(),
-        }
-    }
-
-    // Place and gap are those of the mount, the output is that of the drive behind it.
-    pub fn reversed_reading(&self) -> Reading
-        ensures { result ≡ reversed_reading self.now }
-    {
-        let mount = self.reversed.drive;
-        Reading {
-            place: mount.place(),
-            gap: mount.gap(),
-            output: mount.below().output(),
-        }
     }
 }

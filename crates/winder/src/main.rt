@@ -23,6 +23,7 @@ mod axis_report;
 mod axis_run;
 mod bench;
 mod orders;
+mod reading;
 mod report;
 mod run;
 mod servo;
@@ -33,6 +34,7 @@ mod winding;
 use arguments::hex_word;
 use report::{print_usage, wind};
 use std::{env, io};
+use words::PositionWords;
 
 fn main(rt: HostRuntime) -> io::Result<()> {
     let mut arguments = env::args(&rt)?;
@@ -44,5 +46,5 @@ fn main(rt: HostRuntime) -> io::Result<()> {
     let (Some(first), Some(second)) = (hex_word(first.as_str()), hex_word(second.as_str())) else {
         return print_usage(&rt);
     };
-    wind(&rt, first, second)
+    wind(&rt, PositionWords { first, second })
 }

@@ -5,6 +5,7 @@ ghost use Rattle.winder.specs.Orders.{next_order, order_at_rest, is_over, input_
 use modes::{Command, Input};
 use moves::{Mode, Motion, State};
 
+// An order is answered and printed beside being given, so it is data and no closure.
 #[derive(Clone, Copy)]
 pub enum Order {
     // hands the parameters over
@@ -33,21 +34,15 @@ fn order_at_rest(state: &State) -> Option<Order>
     if !state.homed {
         return Some(Order::Command(Command::SearchHome));
     }
-    match state.program.moveset {
-        None => Some(Order::Wind),
-        Some(_) => None,
-    }
+    state.program.moveset.is_none().then_some(Order::Wind)
 }
 
 // The axis noted why it came to rest or went down, or it is at rest behind its moveset.
 pub fn is_over(state: &State) -> bool
     ensures { result ≡ is_over state.now }
 {
-    match (state.note, state.motion.mode) {
-        (Some(_), _) => true,
-        (None, Mode::Rest) => state.homed && state.program.moveset.is_some(),
-        (None, _) => false,
-    }
+    let at_rest = matches!(state.motion.mode, Mode::Rest);
+    state.note.is_some() || at_rest && state.homed && state.program.moveset.is_some()
 }
 
 // The home switch is on from this tick.
@@ -82,8 +77,5 @@ pub fn step_given(motion: Motion) -> Option<i32>
 pub fn reported(step: Option<i32>) -> i16
     ensures { result ≡ reported step }
 {
-    match step {
-        Some(counts) => counts.clamp(-32_768, 32_767) as i16,
-        None => 0,
-    }
+    step.map_or(0, |counts| counts.clamp(-32_768, 32_767) as i16)
 }

@@ -1,7 +1,7 @@
 // The axis that the program winds with: the gains of its drive, its parameters and its moveset. The numbers are small, so that
 // every tick can be followed by hand.
-ghost use Rattle.std.specs.Prelude.{◌≡◌};
-ghost use Rattle.winder.specs.Settings.{winding_parameters, winding_moveset};
+ghost use Rattle.std.specs.Prelude.{◌≡◌, false, None};
+ghost use Rattle.winder.specs.Settings.{winding_parameters, winding_moveset, plain, travel};
 
 use moves::{Action, MOVES_MAX, Move, Moveset, Parameters, Travel};
 use words::Target;
@@ -31,80 +31,62 @@ pub fn parameters() -> Parameters
     }
 }
 
-// Continuous, so that the next move is its partner: the step that leads past 51 is not cut there.
-const FIRST_LAYER: Move = Move {
-    action: Action::Travel(Travel {
-        target: Target::Absolute(51),
+// A move to a target at the feedrate of the parameters.
+fn travel(target: Target) -> Move
+    ensures { result ≡ plain (travel target false None) }
+{
+    plain(Action::Travel(Travel {
+        target,
         with_offset: false,
         feedrate: None,
-    }),
-    halt: false,
-    continuous: true,
-};
+    }))
+}
 
-const SECOND_LAYER: Move = Move {
-    action: Action::Travel(Travel {
-        target: Target::Absolute(73),
-        with_offset: false,
-        feedrate: None,
-    }),
-    halt: false,
-    continuous: false,
-};
-
-const ASIDE: Move = Move {
-    action: Action::Travel(Travel {
-        target: Target::Incremental(16),
-        with_offset: true,
-        feedrate: None,
-    }),
-    halt: false,
-    continuous: false,
-};
-
-const PAUSE: Move = Move {
-    action: Action::Dwell(20),
-    halt: false,
-    continuous: false,
-};
-
-const BACK: Move = Move {
-    action: Action::Travel(Travel {
-        target: Target::Absolute(70),
-        with_offset: false,
-        feedrate: Some(3),
-    }),
-    halt: true,
-    continuous: false,
-};
-
-const FRESH_ZERO: Move = Move {
-    action: Action::Preset(0),
-    halt: false,
-    continuous: false,
-};
-
-// Also what stands behind the last move.
-const LAST_LAYER: Move = Move {
-    action: Action::Travel(Travel {
-        target: Target::Absolute(30),
-        with_offset: false,
-        feedrate: None,
-    }),
-    halt: false,
-    continuous: false,
-};
+// What is neither continuous nor has a halt.
+fn plain(action: Action) -> Move
+    ensures { result ≡ plain action }
+{
+    Move {
+        action,
+        halt: false,
+        continuous: false,
+    }
+}
 
 // Two moves that blend, a move with offset, a dwell, a move with halt, a preset, and a move in the new positions.
 pub fn moveset() -> Moveset
     ensures { result ≡ winding_moveset }
 {
-    let mut moves = [LAST_LAYER; MOVES_MAX];
-    moves[0] = FIRST_LAYER;
-    moves[1] = SECOND_LAYER;
-    moves[2] = ASIDE;
-    moves[3] = PAUSE;
-    moves[4] = BACK;
-    moves[5] = FRESH_ZERO;
-    Moveset { moves, count: 7 }
+    let layers = [
+        // Continuous, so that the next move is its partner: the step that leads past 51 is not cut there.
+        Move {
+            continuous: true,
+            ..travel(Target::Absolute(51))
+        },
+        travel(Target::Absolute(73)),
+        plain(Action::Travel(Travel {
+            target: Target::Incremental(16),
+            with_offset: true,
+            feedrate: None,
+        })),
+        plain(Action::Dwell(20)),
+        Move {
+            action: Action::Travel(Travel {
+                target: Target::Absolute(70),
+                with_offset: false,
+                feedrate: Some(3),
+            }),
+            halt: true,
+            continuous: false,
+        },
+        plain(Action::Preset(0)),
+        travel(Target::Absolute(30)),
+    ];
+    // The last one also stands behind the others.
+    let mut moves = [travel(Target::Absolute(30)); MOVES_MAX];
+    moves[..layers.len()].copy_from_slice(&layers);
+    Moveset {
+        moves,
+        count: layers.len() as u8,
+    }
 }

@@ -3,12 +3,7 @@ ghost use Rattle.std.specs.Prelude.{◌≡◌};
 ghost use Rattle.winder.specs.Travel.{new_move, next_step, advanced};
 
 use motion::Rates;
-
-#[derive(Clone, Copy)]
-pub enum Direction {
-    Plus,
-    Minus,
-}
+use moves::Direction;
 
 #[derive(Clone, Copy)]
 pub struct Move {
@@ -42,10 +37,6 @@ impl Move {
     {
         self.speed = rates.plan(self.speed, u64::from(self.left));
         self.left -= u32::from(self.speed);
-        let size = i32::from(self.speed);
-        match self.direction {
-            Direction::Plus => size,
-            Direction::Minus => -size,
-        }
+        self.direction.signed(self.speed)
     }
 }

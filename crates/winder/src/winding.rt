@@ -4,10 +4,12 @@ ghost use Rattle.winder.specs.Orders.{next_order, is_over, step_given};
 ghost use Rattle.winder.specs.Winding.{station, new_station, ordered, obeyed, ticked, shown_of, reading_of};
 
 use crate::orders::{Order, input_at, is_over, next_order, reported, step_given};
+use crate::reading::Reading;
 use crate::settings::{AXIS_GAP_GAIN, AXIS_STEP_GAIN, moveset, parameters};
 use axis::Axis;
 use drive::{Analog, Drive};
 use modes::Command;
+use moves::{Mode, Note};
 
 #[derive(Drop)]
 pub struct Winding {
@@ -19,14 +21,12 @@ pub struct Winding {
 // What is read off the axis after a tick.
 #[derive(Clone, Copy)]
 pub struct AxisReading {
-    pub mode: u8,
-    pub place: i32,
-    pub gap: i32,
-    pub output: i16,
+    pub mode: Mode,
+    pub drive: Reading,
     // the position as the programmed moves count it: the place less the base
     pub shown: i64,
     pub last_endpoint: i64,
-    pub noted: u8,
+    pub note: Option<Note>,
 }
 
 impl Winding {
@@ -92,18 +92,12 @@ impl Winding {
         ensures { result ≡ reading_of self.now }
     {
         let state = self.axis.state();
-        let drive = self.axis.drive();
         AxisReading {
-            mode: state.motion.mode.number(),
-            place: drive.place(),
-            gap: drive.gap(),
-            output: drive.output(),
+            mode: state.motion.mode,
+            drive: Reading::of(self.axis.drive()),
             shown: self.shown(),
             last_endpoint: state.coordinates.last_endpoint,
-            noted: match state.note {
-                Some(note) => note.number(),
-                None => 0,
-            },
+            note: state.note,
         }
     }
 }

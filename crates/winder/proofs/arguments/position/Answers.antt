@@ -2,5 +2,5 @@ use Rattle.std.proofs.Common.{rules}
 use Rattle.winder.proofs.Sizes.{reading_within}
 use Rattle.winder.proofs.arguments.position.Goals as goal
 
-pub returns : goal.returns
-returns c = record { answer = search rules; within = search (rules, reading_within) }
+pub returns-clause-within : goal.returns-clause-within
+returns-clause-within c = search (rules, reading_within)

@@ -16,10 +16,10 @@ from_bits tick b z fits = subst (Heading tick b) (to_z-of_z w32 z fits)
 to_bits : (tick : ℕ) (b : Bench) (z : ℤ) → SFits w32 z → Heading tick b z → Heading tick b (to_z w32 (of_z w32 z))
 to_bits tick b z fits = subst (Heading tick b) (sym (to_z-of_z w32 z fits))
 
-pub returns-in-Err : goal.returns-in-Err
-returns-in-Err g c h =
+pub returns-in_err-step : goal.returns-in_err-step
+returns-in_err-step g c h =
     let heading = from_bits c.loop-tick.tick c.loop-tick.bench c.args.counts c.ranges.counts c.loop-tick.invariant in
-    never_refused c.args.counts c.loop-tick.tick _ c.loop-tick.bench c.tick.new.self c.tick.result h (heading h) c.tick.ensures c.in-Err.refusal c.in-Err.is
+    absurd (never_refused c.args.counts c.loop-tick.tick _ c.loop-tick.bench c.tick.new.self c.tick.result h (heading h) c.tick.ensures c.in_err-step.field-0.0 c.in_err-step.was)
 
 pub returns-then-is_done : goal.returns-then-is_done
 returns-then-is_done g c h =
