@@ -65,6 +65,7 @@ pub fn lose_home(control: &mut Control, place: i32)
 pub fn apply_command(control: &mut Control, command: Command, place: i32)
     ensures { control.new.state ≡ after_command command place control.old.state }
 {
+    // The commands are data that the host sends, so each is a case here.
     match command {
         Command::Begin => {
             control.state.note = None;

@@ -143,7 +143,7 @@ impl Program {
 
 #[derive(Clone, Copy, Debug, PartialEq, Eq)]
 pub struct State {
-    // all 0 while the mode is Unset
+    // all 0 while the mode is Unset; every rule that reads them would have to take an Option apart
     pub parameters: Parameters,
     pub motion: Motion,
     pub coordinates: Coordinates,
