@@ -1,16 +1,31 @@
 -- The moves of a block, read one after the other.
-use Rattle.std.proofs.Common.{◌≡◌, ℕ, zero, suc, ◌+◌, ◌-◌, ◌<◌, ◌≤◌, List, [], ◌∷◌, ◌++◌, length, set, take, drop, replicate, Ok, Err, Option, sym, refl, ap, ◌∙◌, arith, length-set}
+use Rattle.std.proofs.Common.{◌≡◌, ℕ, zero, suc, ◌+◌, ◌-◌, ◌<◌, ◌≤◌, Bool, List, [], ◌∷◌, ◌++◌, length, set, take, drop, replicate, Ok, Err, Option, sym, refl, ap, ◌∙◌, arith, length-set}
 use Rattle.std.proofs.lemmas.List.{set-append_left, take-append-drop, length-take-le}
-use Rattle.moves.specs.Moves.{moves_max, no_move}
+use Rattle.words.specs.Words.{on}
 use Rattle.words.specs.declared.axis.AxisId.{AxisId}
 use Rattle.words.specs.declared.fault.Fault.{Fault}
+use Rattle.words.specs.declared.word.Bit.TheVariants.{B16, B17}
+use Rattle.moves.specs.Moves.{moves_max, no_move}
+use Rattle.moves.specs.declared.moves.Action.{Action}
 use Rattle.moves.specs.declared.moves.Move.{Move}
+use Rattle.blocks.specs.Directory.{word_at}
 use Rattle.blocks.specs.Numbers.{filled}
 use Rattle.blocks.specs.Questions.{answer}
-use Rattle.blocks.proofs.Questions.{passed, passed_value, stopped}
+use Rattle.blocks.proofs.Questions.{passed, passed_value, passed_all, stopped, stopped_all}
 use Rattle.blocks.proofs.Starts.{left_step}
-use Rattle.movesets.specs.Actions.{action_questions}
+use Rattle.movesets.specs.Actions.{action_questions, action_of}
 use Rattle.movesets.specs.Movesets.{control_questions, move_questions, move_of, next_start, moves_asked, moves_from}
+
+-- a move whose action has the first no, or was read
+pub move_no : (ws : List ℕ) (a : Option AxisId) (at : ℕ) (e : Fault) → Err e ≡ answer (action_questions ws a at) (action_of ws at) → Err e ≡ answer (action_questions ws a at) (move_of ws at)
+move_no ws a at e r = sym (stopped_all (action_questions ws a at) (action_of ws at) (move_of ws at) e r)
+
+pub move_ok : (ws : List ℕ) (a : Option AxisId) (at : ℕ) (x : Action) (halt continuous : Bool) → Ok x ≡ answer (action_questions ws a at) (action_of ws at) → halt ≡ on B16 (word_at ws at) → continuous ≡ on B17 (word_at ws at) → Ok (record { action = x; halt = halt; continuous = continuous }) ≡ answer (action_questions ws a at) (move_of ws at)
+unfolding move_of
+move_ok ws a at x halt continuous r is16 is17 =
+    let action = passed_value (action_questions ws a at) (action_of ws at) x r in
+    let read = passed_all (action_questions ws a at) (action_of ws at) x (move_of ws at) r in
+    cc
 
 module _ (ws : List ℕ) (a : Option AxisId) (n i at : ℕ) (h : i < n) where
   -- the first of the moves that are left is asked

@@ -1,5 +1,5 @@
 // What the words of a move say.
-ghost use Rattle.std.specs.Prelude.{◌≡◌, ◌+◌, Some};
+ghost use Rattle.std.specs.Prelude.{◌≡◌, Some};
 ghost use Rattle.blocks.specs.Questions.{answer};
 ghost use Rattle.movesets.specs.Actions.{local_questions, local_feedrate, travel_questions, travel_action, preset_questions, preset_action, dwell_questions, dwell_action, action_questions, action_of};
 ghost use Rattle.movesets.specs.Movesets.{move_of};
@@ -16,15 +16,14 @@ const DWELL_MAX: u32 = 9_999_990;
 
 impl MoveWords<'_> {
     // The move, as its words spell it.
-    #[tactic(auto, unfolding(crate::specs::Movesets::move_of))]
-    pub fn read_move(&self) -> Result<Move, Fault>
+    #[tactic(auto, using(crate::proofs::Turns::move_no, crate::proofs::Turns::move_ok))]
+    pub(crate) fn read_move(&self) -> Result<Move, Fault>
         ensures { result ≡ answer (action_questions self.now.block.words.now (Some self.now.block.axis) self.now.start) (move_of self.now.block.words.now self.now.start) }
     {
-        let control = self.control();
         Ok(Move {
             action: self.read_action()?,
-            halt: control.has(Bit::B16),
-            continuous: control.has(Bit::B17),
+            halt: self.has(Bit::B16),
+            continuous: self.has(Bit::B17),
         })
     }
 
@@ -33,8 +32,7 @@ impl MoveWords<'_> {
     fn read_action(&self) -> Result<Action, Fault>
         ensures { result ≡ answer (action_questions self.now.block.words.now (Some self.now.block.axis) self.now.start) (action_of self.now.block.words.now self.now.start) }
     {
-        let control = self.control();
-        match (control.has(Bit::B11), control.has(Bit::B10)) {
+        match (self.has(Bit::B11), self.has(Bit::B10)) {
             (true, true) => self.read_dwell_action(),
             (true, false) => self.read_preset_action(),
             (false, _) => self.read_travel_action(),
@@ -67,7 +65,7 @@ impl MoveWords<'_> {
     {
         Ok(Action::Travel(Travel {
             target: self.pair().read_target()?,
-            with_offset: self.control().has(Bit::B10),
+            with_offset: self.has(Bit::B10),
             feedrate: self.read_local_feedrate()?,
         }))
     }
@@ -77,7 +75,7 @@ impl MoveWords<'_> {
     fn read_local_feedrate(&self) -> Result<Option<u16>, Fault>
         ensures { result ≡ answer (local_questions self.now.block.words.now (Some self.now.block.axis) self.now.start) (local_feedrate self.now.block.words.now self.now.start) }
     {
-        if !self.control().has(Bit::B15) {
+        if !self.has(Bit::B15) {
             return Ok(None);
         }
         let word = self.word(3);

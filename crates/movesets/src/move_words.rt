@@ -1,5 +1,6 @@
 // The words of a move, its control word first.
 ghost use Rattle.std.specs.Prelude.{◌≡◌, ◌+◌, ◌^◌, ◌<◌, ◌≤◌, length, MatchResult, Some};
+ghost use Rattle.words.specs.Words.{on};
 ghost use Rattle.blocks.specs.Directory.{word_at};
 ghost use Rattle.blocks.specs.Questions.{answer};
 ghost use Rattle.movesets.specs.Control.{control_right, move_length};
@@ -20,7 +21,7 @@ pub(crate) struct MoveWords<'a> {
 
 impl<'a> MoveWords<'a> {
     // The move at `start`, if its control word is right and all of its words are there.
-    pub fn new(block: AxisWords<'a>, start: usize) -> Result<MoveWords<'a>, Fault>
+    pub(crate) fn new(block: AxisWords<'a>, start: usize) -> Result<MoveWords<'a>, Fault>
         ensures { MatchResult result
             (λ m. (m.block ≡ block.entry) × (m.start ≡ start) × (Ok (tt {0}) ≡ answer (control_questions block.entry.words.now (Some block.entry.axis) start) (tt {0})))
             (λ e. Err e ≡ answer (control_questions block.entry.words.now (Some block.entry.axis) start) (tt {0})) }
@@ -37,21 +38,22 @@ impl<'a> MoveWords<'a> {
     }
 
     // The word of that index in the move.
-    pub fn word(&self, index: usize) -> Word
+    pub(crate) fn word(&self, index: usize) -> Word
         requires { index < move_length (word_at self.now.block.words.now self.now.start) }
         ensures { result ≡ record { bits = word_at self.now.block.words.now (self.now.start + index); axis = self.now.block.axis; index = self.now.start + index } }
     {
         self.block.word(self.start + index).unwrap()
     }
 
-    pub fn control(&self) -> Word
-        ensures { result ≡ record { bits = word_at self.now.block.words.now self.now.start; axis = self.now.block.axis; index = self.now.start } }
+    // Whether that bit of the control word is on.
+    pub(crate) fn has(&self, which: Bit) -> bool
+        ensures { result ≡ on which (word_at self.now.block.words.now self.now.start) }
     {
-        self.word(0)
+        self.word(0).has(which)
     }
 
     // The two words behind the control word.
-    pub fn pair(&self) -> WordPair
+    pub(crate) fn pair(&self) -> WordPair
         ensures first { result.first ≡ record { bits = word_at self.now.block.words.now (self.now.start + 1); axis = self.now.block.axis; index = self.now.start + 1 } }
         ensures second { result.second ≡ record { bits = word_at self.now.block.words.now (self.now.start + 2); axis = self.now.block.axis; index = self.now.start + 2 } }
     {
@@ -62,10 +64,10 @@ impl<'a> MoveWords<'a> {
     }
 
     // Where the words behind the move start.
-    pub fn end(&self) -> usize
+    pub(crate) fn end(&self) -> usize
         ensures { result ≡ next_start self.now.block.words.now self.now.start }
     {
-        self.start + move_length(self.control())
+        self.start + move_length(self.word(0))
     }
 }
 

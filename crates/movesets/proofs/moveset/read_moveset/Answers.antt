@@ -1,8 +1,7 @@
-use Rattle.std.proofs.Common.{Some, Ok, Err, sym, ap, ◌∙◌}
-use Rattle.std.proofs.lemmas.Result.{err_from_is_err_and}
+use Rattle.std.proofs.Common.{Some, Ok, sym, ap, ◌∙◌}
 use Rattle.blocks.specs.Numbers.{filled}
 use Rattle.blocks.specs.Questions.{answer}
-use Rattle.blocks.proofs.Questions.{passed, passed_value, passed_all, stopped_all}
+use Rattle.blocks.proofs.Questions.{passed, passed_value, passed_all, stopped_all, err_passed}
 use Rattle.movesets.specs.Movesets.{count_questions, move_count, moves_asked, moves_from, moveset_of}
 use Rattle.movesets.proofs.Turns.{unused, length-first, slots_read}
 use Rattle.movesets.proofs.moveset.read_moveset.Goals as goal
@@ -14,10 +13,9 @@ returns-in_err-read_moves c =
     let n = move_count ws in
     let m = c.in_ok-count.count in
     let count = passed_value (count_questions ws a) n m c.in_ok-count.ensures.value in
-    let p = err_from_is_err_and c.from_residual-in_err-read_moves.result c.from_residual-in_err-read_moves.ensures.1 in
-    p.1 ∙ ap Err p.2
-    ∙ sym (passed (count_questions ws a) (moves_asked ws a 1 n) n m (moveset_of ws) c.in_ok-count.ensures.value
-    ∙ stopped_all (moves_asked ws a 1 n) (tt {0}) (moveset_of ws) _ (c.in_err-read_moves.ensures.value ∙ ap (λ k. answer (moves_asked ws a 1 k) (tt {0})) (length-first m c.in_ok-count.ensures.few ∙ count)))
+    err_passed _ _ _ c.from_residual-in_err-read_moves.ensures.1
+    (sym (passed (count_questions ws a) (moves_asked ws a 1 n) n m (moveset_of ws) c.in_ok-count.ensures.value
+    ∙ stopped_all (moves_asked ws a 1 n) (tt {0}) (moveset_of ws) _ (c.in_err-read_moves.ensures.value ∙ ap (λ k. answer (moves_asked ws a 1 k) (tt {0})) (length-first m c.in_ok-count.ensures.few ∙ count))))
 
 pub returns : goal.returns
 returns c =
