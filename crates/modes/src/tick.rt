@@ -15,7 +15,7 @@ pub fn advance(control: &mut Control, input: &Input, seen: &Seen) -> Option<i32>
     ensures after { control.new.state ≡ advance input.now seen.now control.old.state }
     ensures home { result ≡ named_home input.now control.old.state }
 {
-    // Closures or dyn values in place of the modes could not be compared with a definition case by case.
+    // A mode is data that the status shows, and its definition is by cases too: a closure would hide which step it is.
     match control.state.motion.mode {
         Mode::Unset | Mode::Down => {}
         Mode::Rest | Mode::Waiting => stand(control),
