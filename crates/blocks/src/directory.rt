@@ -91,6 +91,7 @@ impl Directory<'_> {
         // By index and not by chunks: a refusal names the index.
         for i in 0..self.count {
             let start = self.record_start(i);
+            // A number, since the word names an axis only once it is right.
             let axis = self.words[start];
             if axis <= above || axis > 3 {
                 return Err(unnamed(Question::Axis, start));

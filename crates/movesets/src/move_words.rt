@@ -37,7 +37,8 @@ impl<'a> MoveWords<'a> {
         Ok(MoveWords { block, start })
     }
 
-    // The word of that index in the move.
+    // The word of that index in the move. blocks has the like of a record for itself: it asks that the word is there, and what is
+    // public asks nothing.
     pub(crate) fn word(&self, index: usize) -> Word
         requires { index < move_length (word_at self.now.block.words.now self.now.start) }
         ensures { result ≡ record { bits = word_at self.now.block.words.now (self.now.start + index); axis = self.now.block.axis; index = self.now.start + index } }
