@@ -1,6 +1,6 @@
 -- A pass over the records of a block: axis by axis, and behind its directory.
 use Rattle.std.proofs.Common.{◌≡◌, ℕ, ◌+◌, ◌^◌, ◌<◌, List, length, ◌++◌, Some, None, Ok, Err, Option, Result, sym, refl, ap, ◌∙◌, arith}
-use Rattle.words.specs.Axes.{Next, InTurn}
+use Rattle.blocks.specs.Turns.{Next, InTurn}
 use Rattle.words.specs.declared.axis.AxisId.{AxisId}
 use Rattle.words.specs.declared.axis.AxisId.TheVariants.{One, Two, Three}
 use Rattle.words.specs.declared.by_axis.ByAxis.{ByAxis}

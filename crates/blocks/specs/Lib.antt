@@ -1,6 +1,7 @@
 pub mod Questions
 pub mod Directory
 pub mod Records
+pub mod Turns
 pub mod Blocks
 pub mod Presets
 pub mod Numbers

@@ -1,5 +1,5 @@
 // Blocks with a directory: one reader for all of their kinds.
-ghost use Rattle.std.specs.Prelude.{◌≡◌, ℕ, ◌+◌, ◌^◌, ◌<◌, ◌≤◌, List, Option, length, IfOk, Some};
+ghost use Rattle.std.specs.Prelude.{◌≡◌, ℕ, ◌+◌, ◌^◌, ◌<◌, ◌≤◌, List, Option, length, Some};
 ghost use Rattle.words.specs.declared.axis.AxisId.{AxisId};
 ghost use Rattle.blocks.specs.declared.kinds.Kind.{Kind};
 ghost use Rattle.blocks.specs.Blocks.{block_questions, block_records};
@@ -11,6 +11,7 @@ use crate::directory::read_directory;
 use crate::fields::RecordWords;
 use crate::kinds::Kind;
 use crate::records::{Record, Records, Starts};
+use crate::turns::try_by_axis;
 use words::{AxisId, AxisWords, Fault};
 
 // A kind of block: how its records are read, and how what they say is checked.
@@ -63,7 +64,8 @@ fn read_records<B: Block>(words: &[u16], starts: Starts) -> Result<Records<B::Wr
     requires { StartsInside (record_length B.KIND) words.now starts }
     ensures { result ≡ answer (by_axis (B.digits words.now) starts) (records_from (B.written words.now) starts) }
 {
-    starts.try_map(
+    try_by_axis(
+        starts,
         |axis, start: Option<usize>| -> Result<Option<Record<B::Written>>, Fault>
             requires { Inside (record_length B.KIND) words.now start }
             ensures { result ≡ answer (at_start (B.digits words.entry.now (Some axis)) start) (record_from (B.written words.entry.now) start) }
@@ -89,7 +91,8 @@ fn check_records<B: Block>(
     requires { Rooms written }
     ensures { result ≡ answer (by_record (B.ranges block.now) written) (all_revalued B.value written) }
 {
-    written.try_map(
+    try_by_axis(
+        written,
         |axis, written: Option<Record<B::Written>>| -> Result<Option<Record<B::Value>>, Fault>
             requires { Room written }
             ensures { result ≡ answer (of_record (B.ranges block.entry.now (Some axis)) written) (revalued B.value written) }

@@ -11,7 +11,7 @@ use crate::records::Records;
 use modes::Command;
 use words::{AxisId, Fault, Question};
 
-// A command as it is written, its ranges not asked yet.
+// A command as it is written: two numbers, since the digits of every record are asked before the range of any.
 #[derive(Clone, Copy)]
 pub(crate) struct Written {
     pub code: u16,

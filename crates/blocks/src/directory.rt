@@ -65,7 +65,7 @@ impl Directory<'_> {
         ensures value { result ≡ answer (pair_questions self.entry.record_length self.entry.words.now) tt }
         ensures ends { OnOk result (length self.entry.words.now ≡ block_end self.entry.record_length self.entry.words.now) }
     {
-        // By index and not by chunks: a refusal names the index.
+        // Chunks would be counted by enumerate, for the index that a refusal names, and each be shown to have its words.
         for i in 0..self.count {
             let pair = 2 + 2 * i;
             if usize::from(self.words[pair]) != self.record_start(i) {
@@ -88,7 +88,7 @@ impl Directory<'_> {
         ensures { result ≡ answer (axis_questions self.entry.record_length self.entry.words.now) tt }
     {
         let mut above = 0;
-        // By index and not by chunks: a refusal names the index.
+        // Chunks would be counted by enumerate, for the index that a refusal names, and each be shown to have its words.
         for i in 0..self.count {
             let start = self.record_start(i);
             // A number, since the word names an axis only once it is right.

@@ -8,7 +8,8 @@ ghost use Rattle.blocks.specs.Questions.{Asked, answer};
 
 use words::{AxisWords, Fault, Word, WordPair};
 
-// The words of a record: those of its block, read for its axis, from `start` on.
+// The words of a record: those of its block, read for its axis, from `start` on. What is asked of their number differs with
+// each reader, by the words that it reads.
 #[derive(Clone, Copy)]
 pub(crate) struct RecordWords<'a> {
     pub block: AxisWords<'a>,

@@ -3,7 +3,7 @@
 // specs/Questions.antt says what an answer is: the value, or the first question that got a no. specs/Directory.antt has the
 // questions of a block's outer form, specs/Records.antt how questions are put to its records, specs/Blocks.antt all questions of
 // a block of any kind, and Parameters.antt, Commands.antt and Presets.antt the questions and the values of each kind. The reader
-// of block.rt is proved once, for every kind, to answer that.
+// of block.rt is proved once, for every kind, to answer that; turns.rt goes from axis to axis.
 
 #![tactic(auto)]
 
@@ -16,6 +16,7 @@ pub mod kinds;
 pub mod parameters;
 pub mod presets;
 pub mod records;
+mod turns;
 
 pub use bounds::RATE_MAX;
 pub use commands::read_commands;

@@ -1,5 +1,5 @@
 // Parameter blocks: what they set for each axis that they name.
-ghost use Rattle.std.specs.Prelude.{◌≡◌, ◌+◌, ◌^◌, ◌<◌, Some};
+ghost use Rattle.std.specs.Prelude.{◌≡◌};
 ghost use Rattle.blocks.specs.declared.kinds.Kind.TheVariants as kind;
 ghost use Rattle.blocks.specs.Parameters.{parameters_written, parameter_digits, parameter_ranges, parameter_questions, home_between, within_reach, limits_within, rates_right, relations_hold, assembled, bounded_rates, reach_of, parameters};
 ghost use Rattle.blocks.specs.Questions.{answer};
@@ -99,7 +99,7 @@ fn assemble(positions: [i32; 4], numbers: [u16; 8]) -> Parameters
 fn home_between(parameters: Parameters) -> bool
     ensures { result ≡ home_between parameters }
 {
-    parameters.low <= parameters.home && parameters.home <= parameters.high
+    (parameters.low..=parameters.high).contains(&parameters.home)
 }
 
 // Whether both limits are within the reach.
@@ -115,6 +115,7 @@ fn limits_within(parameters: Parameters, reach: i32) -> bool
 fn within_reach(place: i32, reach: i32) -> bool
     ensures { result ≡ within_reach reach place }
 {
+    // Tried: contains over the range; the check did not close it.
     -i64::from(reach) <= i64::from(place) && place <= reach
 }
 

@@ -14,6 +14,8 @@ pub struct Input {
     pub marker: bool,
 }
 
+// Handed on beside the control of its axis, as a place or a leg is: a struct of both would hold a reference to change and one to
+// read, and every clause would name both through it.
 #[derive(Clone, Copy, Debug, PartialEq, Eq)]
 pub struct Seen {
     pub place: i32,

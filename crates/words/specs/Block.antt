@@ -9,6 +9,7 @@ abbrev pub word_of : List ℕ → AxisId → ℕ → Option Word
 word_of words axis index =
     cond (nat_lt index (length words)) (Some (record { bits = slice_index words index; axis = axis; index = index })) None
 
+-- two words that are both there
 abbrev pub both : Option Word → Option Word → Option WordPair
 both (Some first) (Some second) = Some (record { first = first; second = second })
 both (Some first) None = None

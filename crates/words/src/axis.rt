@@ -1,4 +1,4 @@
-// The card's three axes.
+// The axes by their numbers.
 ghost use Rattle.std.specs.Prelude.{◌≡◌};
 ghost use Rattle.words.specs.Faults.{axis_number};
 

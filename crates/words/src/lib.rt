@@ -1,8 +1,9 @@
 // What the 16-bit words of the card's data table spell: number words, positions and dwells,
 // and the fault that every refusal is.
 //
-// specs/Faults.antt gives each question and each axis its number, specs/Axes.antt says what is done axis by axis,
-// specs/Words.antt what the digits and bits of words mean, and specs/Readings.antt what each reader answers.
+// specs/Faults.antt gives each question and each axis its number and says how a refusal is printed, specs/Axes.antt has what is
+// had for each axis, specs/Block.antt the words of a block, specs/Words.antt what the digits and bits of words mean,
+// specs/Readings.antt what each reader answers, and specs/Written.antt how a position is written.
 
 #![tactic(auto)]
 

@@ -76,8 +76,8 @@ impl WordPair {
     }
 }
 
-// The words of a position, or None for a number whose size is over POSITION_MAX. Zero has no sign. The error type of a
-// TryFrom would have one value, which is None.
+// The words of a position, or None for a number whose size is over POSITION_MAX. Zero has no sign. The error of a
+// TryFrom would say no more than None does.
 pub fn write_position(counts: i32) -> Option<PositionWords>
     ensures { Writing counts result }
 {

@@ -5,4 +5,4 @@ use Rattle.blocks.proofs.block.check_records.Goals as goal
 
 pub returns : goal.returns
 returns g c =
-    turn_answer (λ a o. of_record (g.B.Block.ranges c.args.block.now (Some a)) o) (revalued g.B.Block.value) c.args.written _ c.try_map.ensures
+    turn_answer (λ a o. of_record (g.B.Block.ranges c.args.block.now (Some a)) o) (revalued g.B.Block.value) c.args.written _ c.try_by_axis.ensures

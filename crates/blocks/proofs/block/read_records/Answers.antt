@@ -6,4 +6,4 @@ use Rattle.blocks.proofs.block.read_records.Goals as goal
 pub returns : goal.returns
 returns g c =
     let ws = c.args.words.now in
-    turn_answer (λ a o. at_start (g.B.Block.digits ws (Some a)) o) (record_from (g.B.Block.written ws)) c.args.starts _ c.try_map.ensures
+    turn_answer (λ a o. at_start (g.B.Block.digits ws (Some a)) o) (record_from (g.B.Block.written ws)) c.args.starts _ c.try_by_axis.ensures
