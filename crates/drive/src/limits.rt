@@ -27,7 +27,7 @@ pub(crate) fn place_after(place: i32, counts: i32) -> Result<i32, Refusal>
 }
 
 // The gap with `counts` added.
-// Tried: one function of the saturated sum took a lemma and answers at `step`; of the 64-bit sum, ten goals of its callers stayed open.
+// Tried: one function for this and the next, of the saturated or the 64-bit sum; two or four goals of its callers stayed open.
 pub(crate) fn held_sum(gap: i32, counts: i32) -> i32
     ensures value { result ≡ held (gap +ℤ counts) }
     ensures within { Within (neg_ℤ gap_ceiling) gap_ceiling result }

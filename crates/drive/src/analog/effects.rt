@@ -1,5 +1,5 @@
-// What the calls of a drive do to an analog one. The trait's clause `obeyed` also says what becomes of the latest step and the
-// gains: `AnalogObeys` has them in its field `output`.
+// What the calls of a drive do to an analog one. What becomes of the latest step and the gains is the field `output` of
+// `AnalogObeys`, which the trait's clause `obeyed` promises of each order.
 ghost use Rattle.drive.specs.Analog.{AnalogObeys, analog_values};
 ghost use Rattle.std.proofs.Common.{rules};
 
