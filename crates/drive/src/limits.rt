@@ -13,7 +13,7 @@ pub(crate) const REACH_CEILING: i32 = 19_999_999;
 pub(crate) fn within_reach(place: i32) -> Result<i32, Refusal>
     ensures { Reached reach_ceiling place result }
 {
-    if place < -REACH_CEILING || place > REACH_CEILING {
+    if !(-REACH_CEILING..=REACH_CEILING).contains(&place) {
         return Err(Refusal::Beyond);
     }
     Ok(place)
@@ -26,8 +26,8 @@ pub(crate) fn place_after(place: i32, counts: i32) -> Result<i32, Refusal>
     within_reach(place.saturating_add(counts))
 }
 
-// The gap with `counts` added. Held by one function of the saturated result, a sum and a difference would each have to be shown
-// to be held alike with saturation and without, at six goals of the two callers.
+// The gap with `counts` added.
+// Tried: one function for this and the next, of the saturated or the 64-bit sum; two or four goals of its callers stayed open.
 pub(crate) fn held_sum(gap: i32, counts: i32) -> i32
     ensures value { result ≡ held (gap +ℤ counts) }
     ensures within { Within (neg_ℤ gap_ceiling) gap_ceiling result }
