@@ -52,7 +52,8 @@ impl fmt::Display for Words {
     }
 }
 
-// What a reader answered.
+// What a reader answered. `vectors` has the same with a sign of equality before a value; the two programs share only the layers of
+// the card, and no layer prints lines.
 #[derive(Drop)]
 struct Answer<T>(Result<T, Fault>);
 

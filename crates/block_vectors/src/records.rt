@@ -24,7 +24,7 @@ impl<T: Value> fmt::Display for RecordList<T> {
 }
 
 // What a record says.
-pub trait Value {
+pub(crate) trait Value {
     // Each number of it behind a blank.
     fn write<W: fmt::Write>(&self, f: &mut fmt::Formatter<W>) -> fmt::Result;
 }

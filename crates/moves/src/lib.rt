@@ -1,7 +1,8 @@
 // The parameters, the moves and the state of one axis, and what becomes of a move: its set-up, its completion, its partner.
 //
-// specs/Moves.antt and specs/State.antt have the parts, with the ranges that every state keeps; specs/SetUp.antt,
-// specs/Completing.antt and specs/Partner.antt state the rules; specs/Numbers.antt gives modes and notes their numbers.
+// specs/Moves.antt and specs/State.antt have the parts; the ranges that every state keeps are the ghost fields of `Control` in
+// src/control.rt. specs/SetUp.antt, specs/Completing.antt and specs/Partner.antt state the rules; specs/Numbers.antt gives modes
+// and notes their numbers.
 
 #![tactic(auto)]
 

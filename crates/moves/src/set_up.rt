@@ -20,6 +20,7 @@ pub struct Destination {
 
 impl Control {
     // Where a move goes that starts from the last endpoint `from`, or the note that its set-up makes.
+    // `from` is the last endpoint or the position of an endpoint, two different numbers of the state, so its range is asked.
     pub(crate) fn destination(&self, from: i64, travel: &Travel) -> Result<Destination, Note>
         requires { Within (2 ^ 34) from }
         ensures { result ≡ destination self.now.state.parameters self.now.state.coordinates from travel.now }
@@ -52,6 +53,7 @@ impl Parameters {
         if SHOWN_MAX < accumulator.unsigned_abs() {
             return Err(Note::OutOfRange);
         }
+        // Tried as `contains` of the range from `low` to `high`; the proof did not close.
         if endpoint < i64::from(self.low) || i64::from(self.high) < endpoint {
             return Err(Note::OutsideLimits);
         }
@@ -64,6 +66,7 @@ impl Parameters {
 }
 
 // The position itself, or so many counts on from the last endpoint.
+// `from` is that of `destination`, and its range is asked for the same reason.
 fn target_from(from: i64, target: Target) -> i64
     requires { Within (2 ^ 34) from }
     ensures value { result ≡ target_from from target }
@@ -140,6 +143,7 @@ impl Control {
     }
 
     // A move or a move with offset, as move `index`.
+    // Place and index are the arguments of the definition of a set-up: a place of the drive and the number of a move.
     fn set_up_travel(&mut self, place: i32, index: u8, travel: &Travel)
         requires { index < moves_max }
         ensures { self.new.state ≡ set_up_travel place index travel.now self.old.state }
@@ -150,6 +154,8 @@ impl Control {
         }
     }
 
+    // A preset, as move `index`.
+    // Place and index are the arguments of the definition here too.
     fn set_up_preset(&mut self, place: i32, index: u8, preset: i32)
         requires { index < moves_max }
         ensures { self.new.state ≡ set_up_preset place index preset self.old.state }

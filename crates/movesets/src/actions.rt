@@ -45,7 +45,7 @@ impl MoveWords<'_> {
     {
         let pair = self.pair();
         let time = pair.read_dwell()?;
-        if time < DWELL_MIN || time > DWELL_MAX {
+        if !(DWELL_MIN..=DWELL_MAX).contains(&time) {
             return Err(Question::Range.refused(pair.first.axis, pair.first.index));
         }
         Ok(Action::Dwell(time))
@@ -80,7 +80,7 @@ impl MoveWords<'_> {
         }
         let word = self.word(3);
         let feedrate = word.four_digits()?;
-        if feedrate < 1 || feedrate > RATE_MAX {
+        if !(1..=RATE_MAX).contains(&feedrate) {
             return Err(Question::Range.refused(word.axis, word.index));
         }
         Ok(Some(feedrate))

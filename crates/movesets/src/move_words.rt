@@ -37,8 +37,8 @@ impl<'a> MoveWords<'a> {
         Ok(MoveWords { block, start })
     }
 
-    // The word of that index in the move. blocks has the like of a record for itself: it asks that the word is there, and what is
-    // public asks nothing.
+    // The word of that index in the move. blocks has the same for a record, `RecordWords::word`, kept to that crate because it asks that
+    // the word is there, and no public function asks anything.
     pub(crate) fn word(&self, index: usize) -> Word
         requires { index < move_length (word_at self.now.block.words.now self.now.start) }
         ensures { result ≡ record { bits = word_at self.now.block.words.now (self.now.start + index); axis = self.now.block.axis; index = self.now.start + index } }
@@ -58,10 +58,7 @@ impl<'a> MoveWords<'a> {
         ensures first { result.first ≡ record { bits = word_at self.now.block.words.now (self.now.start + 1); axis = self.now.block.axis; index = self.now.start + 1 } }
         ensures second { result.second ≡ record { bits = word_at self.now.block.words.now (self.now.start + 2); axis = self.now.block.axis; index = self.now.start + 2 } }
     {
-        WordPair {
-            first: self.word(1),
-            second: self.word(2),
-        }
+        self.block.pair(self.start + 1).unwrap()
     }
 
     // Where the words behind the move start.

@@ -46,7 +46,7 @@ fn read_count(block: AxisWords) -> Result<usize, Fault>
 {
     let wrong = Question::Kind.refused(block.axis, 0);
     let first = block.word(0).ok_or(wrong)?.bits;
-    if first < COUNT_BASE + 1 || first > COUNT_BASE + MOVES_MAX as u16 {
+    if !(COUNT_BASE + 1..=COUNT_BASE + MOVES_MAX as u16).contains(&first) {
         return Err(wrong);
     }
     Ok(usize::from(first - COUNT_BASE))

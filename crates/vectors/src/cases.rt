@@ -4,7 +4,7 @@ ghost use Rattle.std.specs.Prelude.{◌≡◌};
 use std::{fmt, io};
 use words::{AxisId, Fault, Word, WordPair};
 
-// Two words of a block, one after the other.
+// Two words of a block, one after the other. With the field names of `words::PositionWords` a case would not fit one line of a table.
 #[derive(Clone, Copy)]
 pub struct Pair(pub u16, pub u16);
 

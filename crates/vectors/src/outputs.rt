@@ -50,9 +50,9 @@ const AFTER_A_STEP: [Call; 10] = [
 
 // What an analog drive shows of its output.
 #[derive(Clone, Copy)]
-struct Shown(Analog);
+struct ShownOutput(Analog);
 
-impl fmt::Display for Shown {
+impl fmt::Display for ShownOutput {
     fn fmt<W: fmt::Write>(&self, f: &mut fmt::Formatter<W>) -> fmt::Result {
         let gap = self.0.gap();
         let latest = self.0.latest_step();
@@ -68,7 +68,7 @@ pub fn print_outputs(rt: &impl Print) -> io::Result<()> {
         drive.wake();
         let _ = drive.step(step);
         drive.feel(counts, true);
-        let shown = Shown(drive);
+        let shown = ShownOutput(drive);
         println!(rt; "output of gains {k1} {k2} at {shown}")?;
     }
     Ok(())
@@ -80,7 +80,7 @@ pub fn print_latest_steps(rt: &impl Print) -> io::Result<()> {
         drive.wake();
         let _ = drive.step(8);
         let answer = Response(call.make(&mut drive));
-        let shown = Shown(drive);
+        let shown = ShownOutput(drive);
         println!(rt; "after a step of 8 {call} {answer}, {shown}")?;
     }
     Ok(())

@@ -78,7 +78,7 @@ const SLOWED: [Brake; 6] = [
 ];
 
 pub fn print_distances(rt: &impl Print) -> io::Result<()> {
-    // By its name alone, a function of a private module of `motion` gets no proof here.
+    // A closure, as the name alone is not proved here: `braking_distance` stands in a module that `motion` keeps private.
     print_brakes(rt, "braking distance", &DISTANCES, |speed, deceleration| {
         braking_distance(speed, deceleration)
     })
@@ -111,14 +111,19 @@ pub fn print_slowed(rt: &impl Print) -> io::Result<()> {
 }
 
 // Prints what comes of each speed and deceleration.
-fn print_brakes<T, F>(rt: &impl Print, subject: &str, brakes: &[Brake], of: F) -> io::Result<()>
+fn print_brakes<T, F>(
+    rt: &impl Print,
+    subject: &str,
+    brakes: &[Brake],
+    compute: F,
+) -> io::Result<()>
 where
     T: fmt::Display + Drop,
     F: Fn(u16, u16) -> T,
-    requires { F.IsAlwaysCallable of }
+    requires { F.IsAlwaysCallable compute }
 {
     for Brake(speed, deceleration) in brakes {
-        let answer = of(*speed, *deceleration);
+        let answer = compute(*speed, *deceleration);
         println!(rt; "{subject} {speed} at {deceleration} = {answer}")?;
     }
     Ok(())

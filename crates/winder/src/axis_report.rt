@@ -1,4 +1,5 @@
-// What the program prints of the axis. No contract can speak of that, so all that is worked out comes from the other modules.
+// What the program prints of the axis. The texts of `Display` here have no contract; what is worked out in them comes from functions
+// that have one.
 ghost use Rattle.std.specs.Prelude.{◌≡◌};
 ghost use Rattle.moves.specs.Numbers.{noted_number};
 

@@ -41,7 +41,7 @@ fn order_at_rest(state: &State) -> Option<Order>
 pub fn is_over(state: &State) -> bool
     ensures { result ≡ is_over state.now }
 {
-    let at_rest = matches!(state.motion.mode, Mode::Rest);
+    let at_rest = state.motion.mode == Mode::Rest;
     state.note.is_some() || at_rest && state.homed && state.program.moveset.is_some()
 }
 

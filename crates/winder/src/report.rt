@@ -1,4 +1,4 @@
-// What the program prints of the move. No contract can speak of that, so all that is worked out comes from the other modules.
+// What the program prints of the move. The lines have no contract; what is worked out in them comes from functions that have one.
 use crate::arguments::position;
 use crate::axis_report::wind_axis;
 use crate::bench::{Bench, GAP_GAIN, STEP_GAIN};

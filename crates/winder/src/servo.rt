@@ -3,6 +3,7 @@ ghost use Rattle.std.specs.Prelude.{◌≡◌};
 ghost use Rattle.winder.specs.Servos.{servo_state, servo_new, servo_answer, servo_ticked};
 
 use drive::{Drive, Refusal};
+use std::mem;
 
 // The encoder reports each step one tick late.
 #[derive(Clone, Copy, Drop)]
@@ -28,8 +29,7 @@ impl<D: Drive> Servo<D> {
         ensures answer { result ≡ servo_answer (servo_state D.meaning self.old) step }
         ensures after { servo_state D.meaning self.new ≡ servo_ticked (servo_state D.meaning self.old) step }
     {
-        self.drive.feel(self.unreported, true);
-        self.unreported = 0;
+        self.drive.feel(mem::take(&mut self.unreported), true);
         self.drive.step(step)?;
         self.unreported = step;
         Ok(())
