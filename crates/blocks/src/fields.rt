@@ -22,7 +22,13 @@ impl RecordWords<'_> {
         requires { self.start + index < length self.block.words.now }
         ensures { result ≡ word_for self.entry.block.words.now self.entry.block.axis (self.entry.start + index) }
     {
-        self.block.word(self.start + index).unwrap()
+        let index = self.start + index;
+        // Straight from the slice: `AxisWords::word` asks once more whether the word is there, and the readers took a third more time.
+        Word {
+            bits: self.block.words[index],
+            axis: self.block.axis,
+            index,
+        }
     }
 
     // That word and the next one.
@@ -30,7 +36,10 @@ impl RecordWords<'_> {
         requires { self.start + index + 1 < length self.block.words.now }
         ensures { result ≡ record { first = word_for self.entry.block.words.now self.entry.block.axis (self.entry.start + index); second = word_for self.entry.block.words.now self.entry.block.axis (self.entry.start + index + 1) } }
     {
-        self.block.pair(self.start + index).unwrap()
+        WordPair {
+            first: self.word(index),
+            second: self.word(index + 1),
+        }
     }
 }
 

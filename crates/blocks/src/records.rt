@@ -13,4 +13,4 @@ pub struct Record<T> {
 pub type Records<T> = ByAxis<Option<Record<T>>>;
 
 // Where the record of each axis starts.
-pub(crate) type Starts = ByAxis<Option<usize>>;
+pub type Starts = ByAxis<Option<usize>>;
