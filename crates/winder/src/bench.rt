@@ -1,7 +1,8 @@
 // One move on two drives.
-ghost use Rattle.std.specs.Prelude.{Decides};
-ghost use Rattle.winder.specs.Benches.{Begun, Ticked, Done};
+ghost use Rattle.std.specs.Prelude.{◌≡◌, Decides};
+ghost use Rattle.winder.specs.Benches.{Begun, Ticked, Done, analog_reading, reversed_reading};
 
+use crate::reading::Reading;
 use crate::servo::Servo;
 use crate::travel::Move;
 use drive::{Analog, Drive, Refusal, Reversed};
@@ -51,5 +52,18 @@ impl Bench {
     {
         let at_rest = self.travel.left == 0 && self.travel.speed == 0;
         at_rest && self.analog.drive.gap() == 0 && self.reversed.drive.gap() == 0
+    }
+
+    pub fn analog_reading(&self) -> Reading
+        ensures { result ≡ analog_reading self.now }
+    {
+        Reading::of(&self.analog.drive)
+    }
+
+    // Place and gap are those of the mount, the output is that of the drive behind it.
+    pub fn reversed_reading(&self) -> Reading
+        ensures { result ≡ reversed_reading self.now }
+    {
+        Reading::of(&self.reversed.drive)
     }
 }

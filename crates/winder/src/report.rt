@@ -2,7 +2,6 @@
 use crate::arguments::position;
 use crate::axis_report::wind_axis;
 use crate::bench::{Bench, GAP_GAIN, STEP_GAIN};
-use crate::reading::Reading;
 use crate::run::{RATES, Stop, run};
 use std::io;
 use words::PositionWords;
@@ -17,16 +16,16 @@ pub fn print_usage(rt: &impl Eprint) -> io::Result<()> {
 
 // Reads the position, carries the move out and winds with an axis, or says why not.
 pub fn wind(rt: &impl Print, words: PositionWords) -> io::Result<()> {
-    print!(rt; "position {:04X} {:04X}", words.first, words.second)?;
+    let PositionWords { first, second } = words;
     match position(words) {
         Ok(counts) => {
-            println!(rt; ": {counts} counts")?;
+            println!(rt; "position {first:04X} {second:04X}: {counts} counts")?;
             print_settings(rt)?;
             print_run(rt, counts)?;
             wind_axis(rt)
         }
         Err(fault) => println!(rt;
-            " refused: question {}, axis {}, word {}",
+            "position {first:04X} {second:04X} refused: question {}, axis {}, word {}",
             fault.question.number(),
             fault.axis_number(),
             fault.word
@@ -50,7 +49,7 @@ fn print_run(rt: &impl Print, counts: i32) -> io::Result<()> {
 }
 
 pub fn print_tick(rt: &impl Print, tick: u32, step: i32, bench: &Bench) -> io::Result<()> {
-    let analog = Reading::of(&bench.analog.drive);
-    let reversed = Reading::of(&bench.reversed.drive);
+    let analog = bench.analog_reading();
+    let reversed = bench.reversed_reading();
     println!(rt; "tick {tick}: step {step}; analog {analog}; reversed {reversed}")
 }

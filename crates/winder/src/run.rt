@@ -87,8 +87,8 @@ pub fn run(rt: &impl Print, counts: i32) -> Result<Arrival, Stop>
         if bench.is_done() {
             return Ok(Arrival {
                 ticks: tick,
-                analog: Reading::of(&bench.analog.drive),
-                reversed: Reading::of(&bench.reversed.drive),
+                analog: bench.analog_reading(),
+                reversed: bench.reversed_reading(),
             });
         }
     }
