@@ -23,7 +23,8 @@ impl RecordWords<'_> {
         ensures { result ≡ word_for self.entry.block.words.now self.entry.block.axis (self.entry.start + index) }
     {
         let index = self.start + index;
-        // Straight from the slice: `AxisWords::word` asks once more whether the word is there, and the readers took a third more time.
+        // Straight from the slice: `AxisWords::word` asks once more whether the word is there, which cost the readers of parameters and
+        // presets a third more time.
         Word {
             bits: self.block.words[index],
             axis: self.block.axis,
